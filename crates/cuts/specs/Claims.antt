@@ -1,0 +1,25 @@
+use Prim.Native.Nat.{ℕ, _<_, _≤_}
+use mathlib.Core.Path.{_≡_}
+use mathlib.Core.Bool.{Bool, true, false}
+use mathlib.Core.List.{List, [], _∷_}
+use lib.ListN.{length}
+use Rattle.drawing.specs.declared.node.Pair.{Pair}
+use Rattle.drawing.specs.declared.node.Node.{Node}
+use Rattle.drawing.specs.declared.node.Node.the-variants.{Constant, Input, Gate}
+use Rattle.drawing.specs.Sets.{mem, elem}
+use Rattle.cuts.specs.Antichain.{survivors}
+use Rattle.drawing.specs.Drawing.{at, nodeOf, sound}
+use Rattle.cuts.specs.Cuts.{leastCuts, joined, minimal}
+use Rattle.drawing.specs.Reach.{depends}
+
+-- the list of a gate is what is minimal among the unions
+abbrev pub Lists-join : Type 0
+Lists-join = (nodes : List Node) (k v : ℕ) (p : Pair) → sound nodes ≡ true → v < length nodes → at nodes v ≡ Gate p → (s : List ℕ) → elem s (leastCuts nodes k v) ≡ elem s (minimal (joined nodes k (nodeOf (p .left)) (nodeOf (p .right))))
+
+-- a leaf of a gate's list is a node that it depends on
+abbrev pub Leaves-depend : Type 0
+Leaves-depend = (nodes : List Node) (k v u : ℕ) (s : List ℕ) → sound nodes ≡ true → v < length nodes → elem s (leastCuts nodes k v) ≡ true → mem u s ≡ true → depends nodes u v ≡ true
+
+-- What survives of the unions is the list: the same sets, and as many.
+abbrev pub Survivors-are : Type 0
+Survivors-are = (nodes : List Node) (k v : ℕ) (p : Pair) → sound nodes ≡ true → v < length nodes → at nodes v ≡ Gate p → let kept = survivors [] (joined nodes k (nodeOf (p .left)) (nodeOf (p .right))) in ((s : List ℕ) → elem s kept ≡ elem s (leastCuts nodes k v)) × (length kept ≡ length (leastCuts nodes k v))

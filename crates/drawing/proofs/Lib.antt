@@ -1,0 +1,9 @@
+pub mod Members
+pub mod Scans
+pub mod SetLaws
+pub mod Counts
+pub mod ColumnLaws
+pub mod Sound
+pub mod Lawful
+pub mod Grow
+pub mod ReachLaws
