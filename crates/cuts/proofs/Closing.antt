@@ -17,6 +17,7 @@ use Rattle.drawing.specs.Column.{column}
 use Rattle.drawing.specs.Drawing.{at, fanins, isGate, isConstant, soundAt, sound}
 use Rattle.cuts.specs.Cuts.{closing, closes}
 use Rattle.drawing.proofs.Members.{every-in, in-every, every-same, in-counting}
+use Rattle.drawing.proofs.Sound.{fanins-below}
 use Rattle.drawing.proofs.ColumnLaws.{column-at, length-lower, length-column}
 
 pub closes-is : (nodes : List Node) (s : List ℕ) (n : ℕ) → sound nodes ≡ true → n < length nodes → closes nodes s n ≡ (eqb n 0 || mem n s || (isGate (at nodes n) && every (closes nodes s) (fanins (at nodes n))))
@@ -43,9 +44,9 @@ pub closes-ways : (nodes : List Node) (s : List ℕ) (n : ℕ) → sound nodes �
 closes-ways nodes s n d h =
     let e = closes-is nodes s n d (closes-range nodes s n h) in
     ⊎-elim
-      (λ x. ⊎-elim (λ y. zeroth (eqb-true n 0 y)) (λ y. member y) (or-cases _ _ x))
-      (λ x. let p = and-parts _ _ x in through (p .0) (λ f m. every-in (closes nodes s) f (fanins (at nodes n)) (p .1) m))
-      (or-cases (eqb n 0 || mem n s) _ (sym e ∙ h))
+    (λ x. ⊎-elim (λ y. zeroth (eqb-true n 0 y)) (λ y. member y) (or-cases _ _ x))
+    (λ x. let p = and-parts _ _ x in through (p .0) (λ f m. every-in (closes nodes s) f (fanins (at nodes n)) (p .1) m))
+    (or-cases (eqb n 0 || mem n s) _ (sym e ∙ h))
 
 pub closes-by : (nodes : List Node) (s : List ℕ) (n : ℕ) → sound nodes ≡ true → n < length nodes → Closed nodes s n → closes nodes s n ≡ true
 closes-by nodes s n d l (zeroth e) = closes-is nodes s n d l ∙ or-left _ _ (or-left _ _ (eq-eqb n 0 e))
@@ -57,17 +58,17 @@ module _ (old new : List Node) (oldSound : sound old ≡ true) (newSound : sound
     (alike : (n : ℕ) → D n ≡ true → n < length old → (n < length new) × (at new n ≡ at old n))
     (down : (n f : ℕ) → D n ≡ true → n < length old → In f (fanins (at old n)) → D f ≡ true)
     (into : (u : ℕ) → D u ≡ true → mem u s ≡ true → mem u t ≡ true) where
-
   carried : (bound n : ℕ) → n < bound → D n ≡ true → closes old s n ≡ true → closes new t n ≡ true
   carried zero n l i h = absurd (omega arith)
   carried (suc bound) n l i h =
       let r = closes-range old s n h in
       let a = alike n i r in
       closes-by new t n newSound (a .0)
-        (elim (closes-ways old s n oldSound h)
-          [ zeroth e ↦ zeroth e
-          | member m ↦ member (into n i m)
-          | through g f ↦ through (rw (a .1) g) (rw (a .1) (λ k m. carried bound k (omega (arith, fanins-below old n k oldSound r m)) (down n k i r m) (f k m))) ])
+      (elim (closes-ways old s n oldSound h) [
+        | zeroth e ↦ zeroth e
+        | member m ↦ member (into n i m)
+        | through g f ↦ through (rw (a .1) g) (rw (a .1) (λ k m. carried bound k (omega (arith, fanins-below old n k oldSound r m)) (down n k i r m) (f k m)))
+      ])
 
   pub closes-carries : (n : ℕ) → D n ≡ true → closes old s n ≡ true → closes new t n ≡ true
   closes-carries n i h = carried (suc n) n (omega arith) i h

@@ -25,9 +25,9 @@ pub unions-in : (w : List ℕ) (as′ bs : List (List ℕ)) → In w (unions as�
 unions-in w [] bs m = elim m [ ]
 unions-in w (a ∷ rest) bs m =
     ⊎-elim
-      (λ l. let r = map-in (union a) w bs l in (a, r .0, inl refl, r .1, r .2))
-      (λ l. let r = unions-in w rest bs l in (r .0, r .1, inr (r .2), r .3, r .4))
-      (in-append w _ _ m)
+    (λ l. let r = map-in (union a) w bs l in (a, r .0, inl refl, r .1, r .2))
+    (λ l. let r = unions-in w rest bs l in (r .0, r .1, inr (r .2), r .3, r .4))
+    (in-append w _ _ m)
 
 pub in-unions : (a b : List ℕ) (as′ bs : List (List ℕ)) → In a as′ → In b bs → In (union a b) (unions as′ bs)
 in-unions a b [] bs i j = elim i [ ]
@@ -57,10 +57,10 @@ pub says-minimal : (sets : List (List ℕ)) (s : List ℕ) → Minimal sets s �
 says-minimal sets s h =
     let other : List ℕ → List ℕ → Bool = λ x t. sub t x && not (same t x) in
     let bad : some (other s) sets ≡ true → ⊥ = λ b.
-          let r = some-in (other s) sets b in
-          let q = and-parts (sub (r .0) s) _ (r .2) in
-          let e = h .1 (r .0) (r .1) (sub-says (r .0) s (q .0)) in
-          both-ways _ (not-true _ (q .1)) (rw e (same-refl s)) in
+    let r = some-in (other s) sets b in
+    let q = and-parts (sub (r .0) s) _ (r .2) in
+    let e = h .1 (r .0) (r .1) (sub-says (r .0) s (q .0)) in
+    both-ways _ (not-true _ (q .1)) (rw e (same-refl s)) in
     in-keep (λ x. not (some (other x) sets)) s sets (h .0) (not-from-false _ (⊎-elim (λ e. absurd (bad e)) (λ e. e) (cases-bool (some (other s) sets))))
 
 module _ (nodes : List Node) (d : sound nodes ≡ true) (k v f g : ℕ) (inside : v < length nodes) (isFans : fanins (at nodes v) ≡ f ∷ g ∷ []) where
@@ -72,11 +72,11 @@ module _ (nodes : List Node) (d : sound nodes ≡ true) (k v f g : ℕ) (inside 
 
   -- a union is a cut
   pub union-cut : (a b : List ℕ) → Choice nodes f a → Choice nodes g b → Cut nodes v (union a b)
-  union-cut a b p q = record
-    { rising = rises-union 0 a b (p .rising) (q .rising)
-    ; under = λ u m. ⊎-elim (λ (e : mem u a ≡ true). omega (arith, p .upto u e, fBelow)) (λ (e : mem u b ≡ true). omega (arith, q .upto u e, gBelow)) (or-cases _ _ (sym (mem-union u a b) ∙ m))
-    ; closed = λ n m. closedBoth n (rw isFans at m)
-    }
+  union-cut a b p q = record {
+    rising = rises-union 0 a b (p .rising) (q .rising);
+    under = λ u m. ⊎-elim (λ (e : mem u a ≡ true). omega (arith, p .upto u e, fBelow)) (λ (e : mem u b ≡ true). omega (arith, q .upto u e, gBelow)) (or-cases _ _ (sym (mem-union u a b) ∙ m));
+    closed = λ n m. closedBoth n (rw isFans at m);
+  }
     where
       closedBoth : (n : ℕ) → In n (f ∷ g ∷ []) → closes nodes (union a b) n ≡ true
       closedBoth n (inl e) = rw (← e) (closes-more nodes a (union a b) f d (λ u i m. sub-union-left a b u m) (p .closed))
@@ -116,10 +116,10 @@ module _ (nodes : List Node) (d : sound nodes ≡ true) (k v f g : ℕ) (inside 
       let q = minimal-says (joined nodes k f g) s m in
       let c = joined-cut s (q .0) in
       let small : (t : List ℕ) → Cut nodes v t → Sub t s → t ≡ s = λ t b h.
-            let l = part-length 0 0 t s (b .rising) (c .0 .rising) h in
-            let w = cut-joined t b (omega (arith, c .1)) in
-            let e = q .1 (w .0) (w .1) (λ u i. h u (w .2 u i)) in
-            same-members 0 0 t s (b .rising) (c .0 .rising) h (rw e at (w .2)) in
+      let l = part-length 0 0 t s (b .rising) (c .0 .rising) h in
+      let w = cut-joined t b (omega (arith, c .1)) in
+      let e = q .1 (w .0) (w .1) (λ u i. h u (w .2 u i)) in
+      same-members 0 0 t s (b .rising) (c .0 .rising) h (rw e at (w .2)) in
       in-list nodes k v s (record { isCut = c .0; smallest = small }) (c .1)
 
   -- THE THEOREM

@@ -49,13 +49,13 @@ least-says nodes v s h =
     let c = cut-says nodes v s (p .0) in
     let other : List ℕ → Bool = λ t. cut nodes v t && not (same t s) in
     let none = not-true (some other (subsets (length s) s)) (p .1) in
-    record
-      { isCut = c
-      ; smallest = λ t d i.
+    record {
+      isCut = c;
+      smallest = λ t d i.
           let m = in-subsets 0 0 (length s) t s (d .rising) (c .rising) i (part-length 0 0 t s (d .rising) (c .rising) i) in
           let f = not-some other t (subsets (length s) s) none m in
-          same-is t s (⊎-elim (λ e. e) (λ e. absurd (both-ways _ f (and-from _ _ (says-cut nodes v t d) (not-from-false _ e)))) (cases-bool (same t s)))
-      }
+          same-is t s (⊎-elim (λ e. e) (λ e. absurd (both-ways _ f (and-from _ _ (says-cut nodes v t d) (not-from-false _ e)))) (cases-bool (same t s)));
+    }
 
 pub says-least : (nodes : List Node) (v : ℕ) (s : List ℕ) → Least nodes v s → least nodes v s ≡ true
 unfolding least
@@ -63,11 +63,11 @@ says-least nodes v s l =
     let other : List ℕ → Bool = λ t. cut nodes v t && not (same t s) in
     let c = l .isCut in
     let bad : some other (subsets (length s) s) ≡ true → ⊥ = λ h.
-          let r = some-in other (subsets (length s) s) h in
-          let q = and-parts _ _ (r .2) in
-          let i = subsets-in 0 (length s) (r .0) s (c .rising) (r .1) in
-          let e = l .smallest (r .0) (cut-says nodes v (r .0) (q .0)) (i .inside) in
-          both-ways _ (not-true _ (q .1)) (rw e (same-refl s)) in
+    let r = some-in other (subsets (length s) s) h in
+    let q = and-parts _ _ (r .2) in
+    let i = subsets-in 0 (length s) (r .0) s (c .rising) (r .1) in
+    let e = l .smallest (r .0) (cut-says nodes v (r .0) (q .0)) (i .inside) in
+    both-ways _ (not-true _ (q .1)) (rw e (same-refl s)) in
     and-from _ _ (says-cut nodes v s c) (not-from-false _ (⊎-elim (λ e. absurd (bad e)) (λ e. e) (cases-bool (some other (subsets (length s) s)))))
 
 -- a cut that is not least has a smaller one inside
@@ -89,11 +89,11 @@ least-inside′ : (nodes : List Node) (v bound : ℕ) (s : List ℕ) → length 
 least-inside′ nodes v zero s l c = absurd (omega arith)
 least-inside′ nodes v (suc bound) s l c =
     ⊎-elim
-      (λ h. (s, least-says nodes v s h, λ u m. m))
-      (λ h. let r = smaller nodes v s c h in
-        let q = least-inside′ nodes v bound (r .0) (omega (arith, r .3)) (r .1) in
-        (q .0, q .1, λ u m. r .2 u (q .2 u m)))
-      (cases-bool (least nodes v s))
+    (λ h. (s, least-says nodes v s h, λ u m. m))
+    (λ h. let r = smaller nodes v s c h in
+    let q = least-inside′ nodes v bound (r .0) (omega (arith, r .3)) (r .1) in
+    (q .0, q .1, λ u m. r .2 u (q .2 u m)))
+    (cases-bool (least nodes v s))
 
 pub least-inside : (nodes : List Node) (v : ℕ) (s : List ℕ) → Cut nodes v s → (t : List ℕ) × Least nodes v t × Sub t s
 least-inside nodes v s c = least-inside′ nodes v (suc (length s)) s (omega arith) c
@@ -150,32 +150,32 @@ pub zero-constant : (nodes : List Node) → sound nodes ≡ true → 0 < length 
 zero-constant nodes d l = beq-is _ _ (and-parts _ _ (sound-at nodes 0 d l) .0)
 
 zero-choice : (nodes : List Node) (f : ℕ) → sound nodes ≡ true → f < length nodes → f ≡ 0 → Choice nodes f []
-zero-choice nodes f d l e = record
-  { rising = refl
-  ; upto = λ u m. absurd (both-ways false refl m)
-  ; closed = closes-by nodes [] f d l (zeroth e)
-  }
+zero-choice nodes f d l e = record {
+  rising = refl;
+  upto = λ u m. absurd (both-ways false refl m);
+  closed = closes-by nodes [] f d l (zeroth e);
+}
 
 one-choice : (nodes : List Node) (f : ℕ) → sound nodes ≡ true → f < length nodes → 0 < f → Choice nodes f (f ∷ [])
-one-choice nodes f d l z = record
-  { rising = and-from _ _ (lt-ltb 0 f z) refl
-  ; upto = λ u m. ⊎-elim (λ (e : u ≡ f). omega arith) (λ e. absurd (both-ways false refl e)) (mem-cases u f [] m)
-  ; closed = closes-by nodes (f ∷ []) f d l (member (or-left _ _ (eq-eqb f f refl)))
-  }
+one-choice nodes f d l z = record {
+  rising = and-from _ _ (lt-ltb 0 f z) refl;
+  upto = λ u m. ⊎-elim (λ (e : u ≡ f). omega arith) (λ e. absurd (both-ways false refl e)) (mem-cases u f [] m);
+  closed = closes-by nodes (f ∷ []) f d l (member (or-left _ _ (eq-eqb f f refl)));
+}
 
 cut-choice : (nodes : List Node) (f : ℕ) (m : List ℕ) → sound nodes ≡ true → f < length nodes → isGate (at nodes f) ≡ true → Cut nodes f m → Choice nodes f m
-cut-choice nodes f m d l g c = record
-  { rising = c .rising
-  ; upto = λ u i. omega (arith, c .under u i)
-  ; closed = closes-by nodes m f d l (through g (c .closed))
-  }
+cut-choice nodes f m d l g c = record {
+  rising = c .rising;
+  upto = λ u i. omega (arith, c .under u i);
+  closed = closes-by nodes m f d l (through g (c .closed));
+}
 
 -- the node itself, or nothing for node 0
 pub single-choice : (nodes : List Node) (f : ℕ) → sound nodes ≡ true → f < length nodes → (m : List ℕ) × Choice nodes f m × (length m ≤ 1)
 single-choice nodes f d l =
     ⊎-elim (λ (e : f ≡ 0). ([], zero-choice nodes f d l e, omega arith))
-      (λ c. (f ∷ [], one-choice nodes f d l (⊎-elim (λ (x : f < 0). absurd (omega arith)) (λ (x : 0 < f). x) c), omega arith))
-      (cases-order f 0)
+    (λ c. (f ∷ [], one-choice nodes f d l (⊎-elim (λ (x : f < 0). absurd (omega arith)) (λ (x : 0 < f). x) c), omega arith))
+    (cases-order f 0)
 
 pub choice-closes : (nodes : List Node) (k f : ℕ) (m : List ℕ) → sound nodes ≡ true → f < length nodes → In m (choices nodes k f) → Choice nodes f m
 unfolding choices
@@ -183,6 +183,7 @@ choice-closes nodes k f m d l i = go (at nodes f) refl i
   where
     one : isConstant (at nodes f) ≡ false → (f ∷ []) ≡ m → Choice nodes f m
     one h e = subst (Choice nodes f) e (one-choice nodes f d l (kind-zero nodes f d l h))
+
     go : (n : Node) → at nodes f ≡ n → In m (ways (leastCuts nodes k f) f n) → Choice nodes f m
     go Constant e (inl h) = subst (Choice nodes f) h (zero-choice nodes f d l (constant-zero nodes f d l (rw e refl)))
     go Constant e (inr h) = elim h [ ]
@@ -198,23 +199,29 @@ choice-inside nodes k f s d r h c = go (at nodes f) refl
   where
     l : f < length nodes
     l = closes-range nodes s f c
+
     one : mem f s ≡ true → Sub (f ∷ []) s
     one m u i = ⊎-elim (λ (e : u ≡ f). rw e m) (λ e. absurd (both-ways false refl e)) (mem-cases u f [] i)
+
     found : isConstant (at nodes f) ≡ false → (mem f s ≡ true) ⊎ ((isGate (at nodes f) ≡ true) × ((g : ℕ) → In g (fanins (at nodes f)) → closes nodes s g ≡ true))
     found n = elim (closes-ways nodes s f d c) [ zeroth e ↦ absurd (omega (arith, kind-zero nodes f d l n)) | member m ↦ inl m | through g q ↦ inr (g, q) ]
+
     lower : List ℕ
     lower = keep (λ u. ltb u f) s
+
     lowerCut : ((g : ℕ) → In g (fanins (at nodes f)) → closes nodes s g ≡ true) → Cut nodes f lower
-    lowerCut q = record
-      { rising = rises-keep (λ u. ltb u f) 0 s r
-      ; under = λ u m. ltb-true u f (and-parts (mem u s) _ (sym (mem-keep (λ u. ltb u f) u s) ∙ m) .1)
-      ; closed = λ g m. closes-more nodes s lower g d (λ u i j. mem-keep (λ u. ltb u f) u s ∙ and-from _ _ j (lt-ltb u f (omega (arith, fanins-below nodes f g d l m)))) (q g m)
-      }
+    lowerCut q = record {
+      rising = rises-keep (λ u. ltb u f) 0 s r;
+      under = λ u m. ltb-true u f (and-parts (mem u s) _ (sym (mem-keep (λ u. ltb u f) u s) ∙ m) .1);
+      closed = λ g m. closes-more nodes s lower g d (λ u i j. mem-keep (λ u. ltb u f) u s ∙ and-from _ _ j (lt-ltb u f (omega (arith, fanins-below nodes f g d l m)))) (q g m);
+    }
+
     deep : ((g : ℕ) → In g (fanins (at nodes f)) → closes nodes s g ≡ true) → (m : List ℕ) × In m (leastCuts nodes k f) × Sub m s
     deep q =
         let t = least-inside nodes f lower (lowerCut q) in
         let inside : Sub (t .0) s = λ u m. and-parts (mem u s) _ (sym (mem-keep (λ u. ltb u f) u s) ∙ t .2 u m) .0 in
         (t .0, in-list nodes k f (t .0) (t .1) (omega (arith, part-length 0 0 (t .0) s (t .1 .isCut .rising) r inside)), inside)
+
     go : (n : Node) → at nodes f ≡ n → (m : List ℕ) × In m (ways (leastCuts nodes k f) f n) × Sub m s
     go Constant e = ([], inl refl, λ u i. absurd (both-ways false refl i))
     go Input e = ⊎-elim (λ m. (f ∷ [], inl refl, one m)) (λ q. absurd (both-ways false refl (rw e at (q .0)))) (found (rw e refl))

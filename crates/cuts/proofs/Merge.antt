@@ -36,8 +36,8 @@ module _ (m n x y : ℕ) (xs ys : List ℕ) (a : rises m (x ∷ xs) ≡ true) (b
 pub union-right : (x y : ℕ) (xs ys : List ℕ) → rises 0 (x ∷ xs) ≡ true → rises 0 (y ∷ ys) ≡ true → y < x → union (x ∷ xs) (y ∷ ys) ≡ y ∷ union (x ∷ xs) ys
 union-right x y xs ys a b l =
     same-mem 0 0 _ _ (rises-union 0 (x ∷ xs) (y ∷ ys) a b)
-      (and-from _ _ (and-parts _ _ b .0) (rises-union y (x ∷ xs) ys (and-from _ _ (lt-ltb y x l) (rises-tail 0 x xs a)) (rises-tail 0 y ys b)))
-      (λ u. mem-union u (x ∷ xs) (y ∷ ys) ∙ swap (mem u (x ∷ xs)) (eqb u y) (mem u ys) ∙ ap (λ z. eqb u y || z) (sym (mem-union u (x ∷ xs) ys)))
+    (and-from _ _ (and-parts _ _ b .0) (rises-union y (x ∷ xs) ys (and-from _ _ (lt-ltb y x l) (rises-tail 0 x xs a)) (rises-tail 0 y ys b)))
+    (λ u. mem-union u (x ∷ xs) (y ∷ ys) ∙ swap (mem u (x ∷ xs)) (eqb u y) (mem u ys) ∙ ap (λ z. eqb u y || z) (sym (mem-union u (x ∷ xs) ys)))
   where
     swap : (p q r : Bool) → (p || (q || r)) ≡ (q || (p || r))
     swap p q r = grind arith
@@ -45,8 +45,8 @@ union-right x y xs ys a b l =
 pub union-both : (x : ℕ) (xs ys : List ℕ) → rises 0 (x ∷ xs) ≡ true → rises 0 (x ∷ ys) ≡ true → union (x ∷ xs) (x ∷ ys) ≡ x ∷ union xs ys
 union-both x xs ys a b =
     same-mem 0 0 _ _ (rises-union 0 (x ∷ xs) (x ∷ ys) a b)
-      (and-from _ _ (and-parts _ _ a .0) (rises-union x xs ys (rises-tail 0 x xs a) (rises-tail 0 x ys b)))
-      (λ u. mem-union u (x ∷ xs) (x ∷ ys) ∙ drop-one (eqb u x) (mem u xs) (mem u ys) ∙ ap (λ z. eqb u x || z) (sym (mem-union u xs ys)))
+    (and-from _ _ (and-parts _ _ a .0) (rises-union x xs ys (rises-tail 0 x xs a) (rises-tail 0 x ys b)))
+    (λ u. mem-union u (x ∷ xs) (x ∷ ys) ∙ drop-one (eqb u x) (mem u xs) (mem u ys) ∙ ap (λ z. eqb u x || z) (sym (mem-union u xs ys)))
   where
     drop-one : (p q r : Bool) → ((p || q) || (p || r)) ≡ (p || (q || r))
     drop-one p q r = grind arith

@@ -38,7 +38,7 @@ apart-keep p (x ∷ xs) h =
     let r = apart-keep p xs (q .1) in
     let free : List ℕ → Bool = λ y. not (sub x y) && not (sub y x) in
     elim (p x) as (λ b. apart (cond b (x ∷ keep p xs) (keep p xs)) ≡ true)
-      [ true ↦ and-from _ _ (in-every free (keep p xs) (λ a m. every-in free a xs (q .0) (keep-in p a xs m .0))) r | false ↦ r ]
+    [ true ↦ and-from _ _ (in-every free (keep p xs) (λ a m. every-in free a xs (q .0) (keep-in p a xs m .0))) r | false ↦ r ]
 
 apart-push : (xs : List (List ℕ)) (c : List ℕ) → apart xs ≡ true → ((a : List ℕ) → In a xs → (sub a c ≡ false) × (sub c a ≡ false)) → apart (xs ++ c ∷ []) ≡ true
 apart-push [] c h k = refl
@@ -58,23 +58,24 @@ front-more seen kept c f = go (some (λ m. sub m c) kept) refl
   where
     stays : List ℕ → Bool
     stays m = not (sub c m)
+
     go : (b : Bool) → some (λ m. sub m c) kept ≡ b → Front (seen ++ c ∷ []) (cond b kept (keep (λ m. not (sub c m)) kept ++ c ∷ []))
-    go true e = record
-      { from = λ m i. in-append-left m seen _ (f .from m i)
-      ; under = λ s i. ⊎-elim (λ j. f .under s j) (λ j. ⊎-elim (λ (g : c ≡ s). let r = some-in (λ m. sub m c) kept e in (r .0, r .1, rw (← g) (sub-says (r .0) c (r .2)))) (λ g. absurd g) j) (in-append s seen (c ∷ []) i)
-      ; alone = f .alone
-      }
-    go false e = record
-      { from = λ m i. ⊎-elim (λ j. in-append-left m seen _ (f .from m (keep-in stays m kept j .0))) (λ j. in-append-right m seen _ j) (in-append m (keep stays kept) (c ∷ []) i)
-      ; under = λ s i. ⊎-elim
+    go true e = record {
+      from = λ m i. in-append-left m seen _ (f .from m i);
+      under = λ s i. ⊎-elim (λ j. f .under s j) (λ j. ⊎-elim (λ (g : c ≡ s). let r = some-in (λ m. sub m c) kept e in (r .0, r .1, rw (← g) (sub-says (r .0) c (r .2)))) (λ g. absurd g) j) (in-append s seen (c ∷ []) i);
+      alone = f .alone;
+    }
+    go false e = record {
+      from = λ m i. ⊎-elim (λ j. in-append-left m seen _ (f .from m (keep-in stays m kept j .0))) (λ j. in-append-right m seen _ j) (in-append m (keep stays kept) (c ∷ []) i);
+      under = λ s i. ⊎-elim
           (λ j. let r = f .under s j in
-            ⊎-elim (λ h. (c, in-append-right c (keep stays kept) _ (inl refl), sub-trans c (r .0) s (sub-says c (r .0) h) (r .2)))
-              (λ h. (r .0, in-append-left (r .0) (keep stays kept) _ (in-keep stays (r .0) kept (r .1) (not-from-false _ h)), r .2))
-              (cases-bool (sub c (r .0))))
+          ⊎-elim (λ h. (c, in-append-right c (keep stays kept) _ (inl refl), sub-trans c (r .0) s (sub-says c (r .0) h) (r .2)))
+          (λ h. (r .0, in-append-left (r .0) (keep stays kept) _ (in-keep stays (r .0) kept (r .1) (not-from-false _ h)), r .2))
+          (cases-bool (sub c (r .0))))
           (λ j. ⊎-elim (λ (g : c ≡ s). (c, in-append-right c (keep stays kept) _ (inl refl), rw (← g) (λ u m. m))) (λ g. absurd g) j)
-          (in-append s seen (c ∷ []) i)
-      ; alone = apart-push (keep stays kept) c (apart-keep stays kept (f .alone)) (λ a m. let r = keep-in stays a kept m in (not-some (λ m. sub m c) a kept e (r .0), not-true _ (r .1)))
-      }
+          (in-append s seen (c ∷ []) i);
+      alone = apart-push (keep stays kept) c (apart-keep stays kept (f .alone)) (λ a m. let r = keep-in stays a kept m in (not-some (λ m. sub m c) a kept e (r .0), not-true _ (r .1)));
+    }
 
 pub front-none : Front [] []
 front-none = record { from = λ m i. i; under = λ s i. absurd i; alone = refl }
@@ -111,11 +112,13 @@ apart-same (x ∷ xs) a b h (inr i) (inr j) k = apart-same xs a b (and-parts _ _
 -- what is kept is what is minimal
 module _ (seen kept : List (List ℕ)) (f : Front seen kept) (rising : (s : List ℕ) → In s seen → rises 0 s ≡ true) where
   pub kept-minimal : (s : List ℕ) → In s kept → Minimal seen s
-  kept-minimal s i =
-      (f .from s i, λ t j h.
+  kept-minimal s i = (
+    f .from s i,
+    λ t j h.
         let r = f .under t j in
         let e = apart-same kept (r .0) s (f .alone) (r .1) i (sub-trans (r .0) t s (r .2) h) in
-        same-members 0 0 t s (rising t j) (rising s (f .from s i)) h (rw e at (r .2)))
+        same-members 0 0 t s (rising t j) (rising s (f .from s i)) h (rw e at (r .2)),
+  )
 
   pub minimal-kept : (s : List ℕ) → Minimal seen s → In s kept
   minimal-kept s m =

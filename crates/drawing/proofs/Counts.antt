@@ -57,11 +57,11 @@ once-subsets n zero (x ∷ xs) r = ((λ m. m), tt)
 once-subsets n (suc k) (x ∷ xs) r =
     let p = and-parts (ltb n x) (rises x xs) r in
     once-append (map (λ z. x ∷ z) (subsets k xs)) (subsets (suc k) xs)
-      (once-map (λ z. x ∷ z) (subsets k xs) (λ a b (e : x ∷ a ≡ x ∷ b). cc) (once-subsets x k xs (p .1)))
-      (once-subsets x (suc k) xs (p .1))
-      (λ a i j.
-        let q = map-in (λ z. x ∷ z) a (subsets k xs) i in
-        let w = subsets-in x (suc k) a xs (p .1) j in
-        let m : mem x a ≡ true = rw (← (q .2)) (mem-head x (q .0)) in
-        let l = rises-mem x a x (w .rising) m in
-        omega arith)
+    (once-map (λ z. x ∷ z) (subsets k xs) (λ a b (e : x ∷ a ≡ x ∷ b). cc) (once-subsets x k xs (p .1)))
+    (once-subsets x (suc k) xs (p .1))
+    (λ a i j.
+    let q = map-in (λ z. x ∷ z) a (subsets k xs) i in
+    let w = subsets-in x (suc k) a xs (p .1) j in
+    let m : mem x a ≡ true = rw (← (q .2)) (mem-head x (q .0)) in
+    let l = rises-mem x a x (w .rising) m in
+    omega arith)

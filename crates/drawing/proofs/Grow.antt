@@ -45,7 +45,7 @@ module _ (xs : List Node) (i : ℕ) (outputs : List ℕ) (room : i < length xs) 
   pub input-lawful : i < mostNodes → lawful (drawing (take i xs) outputs) ≡ true → lawful (drawing (take (i + 1) (set xs i Input)) outputs) ≡ true
   input-lawful l h =
       rw (take-more-set xs i Input room)
-        (lawful-node (take i xs) outputs Input h (omega (arith, front)) (input-right (take i xs) (lawful-says (take i xs) outputs h .nodes-sound)))
+      (lawful-node (take i xs) outputs Input h (omega (arith, front)) (input-right (take i xs) (lawful-says (take i xs) outputs h .nodes-sound)))
 
   pub gate-put : (p : Pair) → i < mostNodes → (names (take i xs) (p .left) && names (take i xs) (p .right)) ≡ true → (Ok i ≡ gateAnswer (drawing (take i xs) outputs) p) × (drawing (take (i + 1) (set xs i (Gate p))) outputs ≡ afterGate (drawing (take i xs) outputs) p)
   gate-put p l n = rw (take-more-set xs i (Gate p) room) (gate-accepted (take i xs) outputs p i front l n)
@@ -54,7 +54,7 @@ module _ (xs : List Node) (i : ℕ) (outputs : List ℕ) (room : i < length xs) 
   gate-lawful p l n h =
       let b = and-parts (names (take i xs) (p .left)) (names (take i xs) (p .right)) n in
       rw (take-more-set xs i (Gate p) room)
-        (lawful-node (take i xs) outputs (Gate p) h (omega (arith, front)) (gate-sound (take i xs) p (lawful-says (take i xs) outputs h .nodes-sound) (b .0) (b .1)))
+      (lawful-node (take i xs) outputs (Gate p) h (omega (arith, front)) (gate-sound (take i xs) p (lawful-says (take i xs) outputs h .nodes-sound) (b .0) (b .1)))
 
 module _ (nodes : List Node) (xs : List ℕ) (i o : ℕ) (room : i < length xs) (few : i < mostOutputs) (n : names nodes o ≡ true) where
   pub output-put : (Ok i ≡ outputAnswer (drawing nodes (take i xs)) o) × (drawing nodes (take (i + 1) (set xs i o)) ≡ afterOutput (drawing nodes (take i xs)) o)

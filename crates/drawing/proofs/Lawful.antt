@@ -33,21 +33,21 @@ lawful-says nodes outputs h =
     let p = and-parts (sound nodes && every (names nodes) outputs && leb (length nodes) mostNodes) (leb (length outputs) mostOutputs) h in
     let q = and-parts (sound nodes && every (names nodes) outputs) (leb (length nodes) mostNodes) (p .0) in
     let r = and-parts (sound nodes) (every (names nodes) outputs) (q .0) in
-    record
-      { nodes-sound = r .0
-      ; outputs-named = λ o i. ltb-true _ _ (every-in (names nodes) o outputs (r .1) i)
-      ; nodes-few = leb-true _ _ (q .1)
-      ; outputs-few = leb-true _ _ (p .1)
-      }
+    record {
+      nodes-sound = r .0;
+      outputs-named = λ o i. ltb-true _ _ (every-in (names nodes) o outputs (r .1) i);
+      nodes-few = leb-true _ _ (q .1);
+      outputs-few = leb-true _ _ (p .1);
+    }
 
 pub says-lawful : (nodes : List Node) (outputs : List ℕ) → Lawfully nodes outputs → lawful (drawing nodes outputs) ≡ true
 unfolding lawful
 says-lawful nodes outputs l =
     and-from _ _
-      (and-from _ _
-        (and-from _ _ (l .nodes-sound) (in-every (names nodes) outputs (λ o i. lt-ltb _ _ (l .outputs-named o i))))
-        (le-leb _ _ (l .nodes-few)))
-      (le-leb _ _ (l .outputs-few))
+    (and-from _ _
+    (and-from _ _ (l .nodes-sound) (in-every (names nodes) outputs (λ o i. lt-ltb _ _ (l .outputs-named o i))))
+    (le-leb _ _ (l .nodes-few)))
+    (le-leb _ _ (l .outputs-few))
 
 pub lawful-new : lawful (drawing (Constant ∷ []) []) ≡ true
 unfolding lawful sound
@@ -57,12 +57,12 @@ lawful-new = refl
 pub lawful-node : (nodes : List Node) (outputs : List ℕ) (n : Node) → lawful (drawing nodes outputs) ≡ true → length nodes < mostNodes → soundAt (length nodes) n ≡ true → lawful (drawing (nodes ++ n ∷ []) outputs) ≡ true
 lawful-node nodes outputs n h l s =
     let w = lawful-says nodes outputs h in
-    says-lawful (nodes ++ n ∷ []) outputs record
-      { nodes-sound = sound-push nodes n (w .nodes-sound) s
-      ; outputs-named = λ o i. omega (arith, w .outputs-named o i, length-push nodes n)
-      ; nodes-few = omega (arith, length-push nodes n)
-      ; outputs-few = w .outputs-few
-      }
+    says-lawful (nodes ++ n ∷ []) outputs record {
+      nodes-sound = sound-push nodes n (w .nodes-sound) s;
+      outputs-named = λ o i. omega (arith, w .outputs-named o i, length-push nodes n);
+      nodes-few = omega (arith, length-push nodes n);
+      outputs-few = w .outputs-few;
+    }
 
 -- a gate whose literals name nodes of the drawing is sound behind them
 pub gate-sound : (nodes : List Node) (p : Pair) → sound nodes ≡ true → names nodes (p .left) ≡ true → names nodes (p .right) ≡ true → soundAt (length nodes) (Gate p) ≡ true
@@ -74,9 +74,9 @@ gate-sound nodes p s l r =
 pub lawful-output : (nodes : List Node) (outputs : List ℕ) (l : ℕ) → lawful (drawing nodes outputs) ≡ true → length outputs < mostOutputs → names nodes l ≡ true → lawful (drawing nodes (outputs ++ l ∷ [])) ≡ true
 lawful-output nodes outputs l h few n =
     let w = lawful-says nodes outputs h in
-    says-lawful nodes (outputs ++ l ∷ []) record
-      { nodes-sound = w .nodes-sound
-      ; outputs-named = λ o i. ⊎-elim (λ j. w .outputs-named o j) (λ j. ⊎-elim (λ (e : l ≡ o). rw (← e) (ltb-true _ _ n)) (λ k. elim k [ ]) j) (in-append o outputs (l ∷ []) i)
-      ; nodes-few = w .nodes-few
-      ; outputs-few = omega (arith, length-push outputs l)
-      }
+    says-lawful nodes (outputs ++ l ∷ []) record {
+      nodes-sound = w .nodes-sound;
+      outputs-named = λ o i. ⊎-elim (λ j. w .outputs-named o j) (λ j. ⊎-elim (λ (e : l ≡ o). rw (← e) (ltb-true _ _ n)) (λ k. elim k [ ]) j) (in-append o outputs (l ∷ []) i);
+      nodes-few = w .nodes-few;
+      outputs-few = omega (arith, length-push outputs l);
+    }

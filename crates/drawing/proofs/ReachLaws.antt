@@ -56,7 +56,7 @@ module _ (edges : ℕ → List ℕ) (size : ℕ) where
         let g = w .0 in
         let b = below v g lv (w .1) in
         reach-through f v g lv (w .1)
-          (⊎-elim (λ (e : g ≡ n). rw e (reach-direct n f r m)) (λ e. down′ bound g n f (omega arith) r e m) (w .2))
+        (⊎-elim (λ (e : g ≡ n). rw e (reach-direct n f r m)) (λ e. down′ bound g n f (omega arith) r e m) (w .2))
 
     -- what is reached goes on downwards
     pub reach-down : (v n f : ℕ) → n < size → reach edges size n v ≡ true → In f (edges n) → reach edges size f v ≡ true
@@ -81,7 +81,7 @@ module _ (edges : ℕ → List ℕ) (size : ℕ) where
     out-down outs n f l h m =
         let r = some-in (λ o. eqb (nodeOf o) n || reach edges size n (nodeOf o)) outs h in
         in-some (λ o. eqb (nodeOf o) f || reach edges size f (nodeOf o)) (r .0) outs (r .1)
-          (or-right (eqb (nodeOf (r .0)) f) (reach edges size f (nodeOf (r .0))) (⊎-elim (λ e. rw (eqb-true (nodeOf (r .0)) n e) (reach-direct n f l m)) (λ e. reach-down (nodeOf (r .0)) n f l e m) (or-cases _ _ (r .2))))
+        (or-right (eqb (nodeOf (r .0)) f) (reach edges size f (nodeOf (r .0))) (⊎-elim (λ e. rw (eqb-true (nodeOf (r .0)) n e) (reach-direct n f l m)) (λ e. reach-down (nodeOf (r .0)) n f l e m) (or-cases _ _ (r .2))))
 
 module _ (nodes : List Node) (d : sound nodes ≡ true) where
   abbrev ties : ℕ → List ℕ

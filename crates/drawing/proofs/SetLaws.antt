@@ -115,18 +115,18 @@ part-nil : (n k : ℕ) (t : List ℕ) → Part n k [] t
 part-nil n k t = record { rising = refl; inside = λ u m. absurd (both-ways false refl m); few = omega arith }
 
 part-with : (n k x : ℕ) (s t : List ℕ) → ltb n x ≡ true → Part x k s t → Part n (suc k) (x ∷ s) (x ∷ t)
-part-with n k x s t l p = record
-  { rising = and-from _ _ l (p .rising)
-  ; inside = λ u m. ⊎-elim (λ (e : u ≡ x). or-left _ _ (eq-eqb u x e)) (λ e. or-right _ _ (p .inside u e)) (mem-cases u x s m)
-  ; few = omega arith
-  }
+part-with n k x s t l p = record {
+  rising = and-from _ _ l (p .rising);
+  inside = λ u m. ⊎-elim (λ (e : u ≡ x). or-left _ _ (eq-eqb u x e)) (λ e. or-right _ _ (p .inside u e)) (mem-cases u x s m);
+  few = omega arith;
+}
 
 part-without : (n k x : ℕ) (s t : List ℕ) → ltb n x ≡ true → Part x k s t → Part n k s (x ∷ t)
-part-without n k x s t l p = record
-  { rising = rises-weaker n x s (omega (arith, ltb-true n x l)) (p .rising)
-  ; inside = λ u m. or-right _ _ (p .inside u m)
-  ; few = p .few
-  }
+part-without n k x s t l p = record {
+  rising = rises-weaker n x s (omega (arith, ltb-true n x l)) (p .rising);
+  inside = λ u m. or-right _ _ (p .inside u m);
+  few = p .few;
+}
 
 pub subsets-in : (n k : ℕ) (s t : List ℕ) → rises n t ≡ true → In s (subsets k t) → Part n k s t
 subsets-in n k s [] r (inl e) = subst (λ z. Part n k z []) e (part-nil n k [])
@@ -136,10 +136,10 @@ subsets-in n zero s (x ∷ xs) r (inr m) = elim m [ ]
 subsets-in n (suc k) s (x ∷ xs) r m =
     let p = and-parts _ _ r in
     ⊎-elim
-      (λ l. let q = map-in (λ z. x ∷ z) s (subsets k xs) l in
-        subst (λ z. Part n (suc k) z (x ∷ xs)) (q .2) (part-with n k x (q .0) xs (p .0) (subsets-in x k (q .0) xs (p .1) (q .1))))
-      (λ l. part-without n (suc k) x s xs (p .0) (subsets-in x (suc k) s xs (p .1) l))
-      (in-append s _ _ m)
+    (λ l. let q = map-in (λ z. x ∷ z) s (subsets k xs) l in
+    subst (λ z. Part n (suc k) z (x ∷ xs)) (q .2) (part-with n k x (q .0) xs (p .0) (subsets-in x k (q .0) xs (p .1) (q .1))))
+    (λ l. part-without n (suc k) x s xs (p .0) (subsets-in x (suc k) s xs (p .1) l))
+    (in-append s _ _ m)
 
 -- a union
 insert-cases : (u x v : ℕ) (xs rest : List ℕ) → mem v rest ≡ (eqb v u || mem v xs) → mem v (cond (ltb u x) (u ∷ x ∷ xs) (cond (eqb u x) (x ∷ xs) (x ∷ rest))) ≡ (eqb v u || (eqb v x || mem v xs))
@@ -197,7 +197,7 @@ length-insert u [] = omega arith
 length-insert u (x ∷ xs) =
     let h = length-insert u xs in
     cond-both (ltb u x) _ _ (λ z. length z ≤ suc (suc (length xs))) (λ _. omega arith)
-      (λ _. cond-both (eqb u x) _ _ (λ z. length z ≤ suc (suc (length xs))) (λ _. omega arith) (λ _. omega arith))
+    (λ _. cond-both (eqb u x) _ _ (λ z. length z ≤ suc (suc (length xs))) (λ _. omega arith) (λ _. omega arith))
 
 pub length-union : (s t : List ℕ) → length (union s t) ≤ length s + length t
 length-union [] t = omega arith

@@ -52,18 +52,18 @@ sound-new = refl
 pub sound-push : (nodes : List Node) (n : Node) → sound nodes ≡ true → soundAt (length nodes) n ≡ true → sound (nodes ++ n ∷ []) ≡ true
 sound-push nodes n d h =
     sound-by (nodes ++ n ∷ []) (omega (arith, length-push nodes n))
-      (λ v l. ⊎-elim
-        (λ (e : v ≡ length nodes). rw (e, getD-push nodes n Constant (length nodes) refl) h)
-        (λ (e : v ≢ length nodes). let b : v < length nodes = omega (arith, length-push nodes n) in rw (getD-append-left nodes (n ∷ []) Constant v b) (sound-at nodes v d b))
-        (cases-eq v (length nodes)))
+    (λ v l. ⊎-elim
+    (λ (e : v ≡ length nodes). rw (e, getD-push nodes n Constant (length nodes) refl) h)
+    (λ (e : v ≢ length nodes). let b : v < length nodes = omega (arith, length-push nodes n) in rw (getD-append-left nodes (n ∷ []) Constant v b) (sound-at nodes v d b))
+    (cases-eq v (length nodes)))
 
 pub sound-set : (nodes : List Node) (g : ℕ) (n : Node) → sound nodes ≡ true → soundAt g n ≡ true → sound (set nodes g n) ≡ true
 sound-set nodes g n d h =
     sound-by (set nodes g n) (omega (arith, length-set nodes g n, sound-some nodes d))
-      (λ v l. let b : v < length nodes = omega (arith, length-set nodes g n) in ⊎-elim
-        (λ (e : v ≡ g). rw (e, getD-set-same nodes g n Constant (omega arith)) h)
-        (λ (e : v ≢ g). rw (getD-set-other nodes g v n Constant e) (sound-at nodes v d b))
-        (cases-eq v g))
+    (λ v l. let b : v < length nodes = omega (arith, length-set nodes g n) in ⊎-elim
+    (λ (e : v ≡ g). rw (e, getD-set-same nodes g n Constant (omega arith)) h)
+    (λ (e : v ≢ g). rw (getD-set-other nodes g v n Constant e) (sound-at nodes v d b))
+    (cases-eq v g))
 
 -- an input is right at any place but 0
 pub input-right : (nodes : List Node) → sound nodes ≡ true → soundAt (length nodes) Input ≡ true

@@ -4,10 +4,12 @@ use super::Table;
 use crate::node::Node;
 use crate::node::Pair;
 use crate::refusal::Refusal;
+ghost use Prim.Native.Nat.{_≤_};
 ghost use Rattle.drawing.specs.Calls.{afterGate, afterInput, afterOutput, gateAnswer, inputAnswer, outputAnswer, Unless};
-ghost use Rattle.drawing.specs.Drawing.{names, newDrawing};
+ghost use Rattle.drawing.specs.Drawing.{drawing, lawful, mostNodes, mostOutputs, names, newDrawing};
 ghost use Rattle.drawing.specs.Tables.{drawingOf};
-ghost use mathlib.Core.Bool.{_&&_};
+ghost use lib.ListN.{take};
+ghost use mathlib.Core.Bool.{_&&_, true};
 ghost use mathlib.Core.Path.{_≡_};
 
 /// The most nodes that a drawing has, node 0 included.
@@ -26,6 +28,20 @@ impl Table {
             count: 1,
             outputs: [0; 64],
             output_count: 0,
+        }
+    }
+
+    /// The drawing in these arrays, of which `count` nodes and `output_count` outputs are its own.
+    pub fn of(nodes: [Node; 256], count: usize, outputs: [u16; 64], output_count: usize) -> Table
+        requires within { ⌜ (count ≤ mostNodes) × («output_count» ≤ mostOutputs) ⌝ }
+        requires law { ⌜ lawful (drawing (take count nodes) (take «output_count» outputs)) ≡ true ⌝ }
+        ensures { λ r. ⌜ drawingOf r ≡ drawing (take count nodes) (take «output_count» outputs) ⌝ }
+    {
+        Table {
+            nodes,
+            count,
+            outputs,
+            output_count,
         }
     }
 
