@@ -8,8 +8,8 @@ use native.Mathlib.Omega.{arith}
 use lib.Dec.{eqb, ltb}
 use lib.ListN.{length, getD, set}
 use Rattle.std.specs.Iters.{counting}
-use Rattle.std.proofs.shelf.Tests.{and-parts, and-from, both-ways, ltb-true, lt-ltb, cases-eq, ne-eqb}
-use Rattle.std.proofs.shelf.Lists.{getD-set-same, getD-set-other, length-set, getD-append-left, getD-push, length-push}
+use Rattle.std.proofs.shelf.Tests.{and-parts, and-from, both-ways, ltb-true, lt-ltb, cases-eq, cases-lt, ne-eqb}
+use Rattle.std.proofs.shelf.Lists.{getD-set-same, getD-set-other, length-set, getD-append-left, getD-push, length-push, getD-past}
 use Rattle.drawing.specs.declared.node.Pair.{Pair}
 use Rattle.drawing.specs.declared.node.Node.{Node}
 use Rattle.drawing.specs.declared.node.Node.the-variants.{Constant, Input, Gate}
@@ -71,3 +71,8 @@ input-right nodes d =
     let l = sound-some nodes d in
     let e : eqb (length nodes) 0 ≡ false = ne-eqb (length nodes) 0 (omega arith) in
     rw e refl
+
+-- a gate is a node of the drawing
+pub gate-range : (nodes : List Node) (v : ℕ) → isGate (at nodes v) ≡ true → v < length nodes
+gate-range nodes v g =
+    ⊎-elim (λ l. l) (λ l. absurd (both-ways _ (ap isGate (getD-past nodes v Constant l)) g)) (cases-lt v (length nodes))

@@ -1,0 +1,3 @@
+pub mod FlatRows
+pub mod Stays
+pub mod Same

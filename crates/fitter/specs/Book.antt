@@ -1,0 +1,51 @@
+-- The book of calls: a drawing and a width, by the calls' arguments alone.
+use Prim.Native.Nat.{ℕ}
+use mathlib.Core.Bool.{Bool, false, cond, _&&_, not}
+use mathlib.Core.List.{List}
+use lib.Dec.{eqb}
+use lib.ListN.{replicate}
+use Rattle.std.specs.declared.result.Result.{Result}
+use Rattle.std.specs.declared.result.Result.the-variants.{Ok, Err}
+use Rattle.drawing.specs.declared.node.Pair.{Pair}
+use Rattle.drawing.specs.declared.refusal.Refusal.{Refusal}
+use Rattle.drawing.specs.declared.refusal.Refusal.the-variants.{BadWidth}
+use Rattle.drawing.specs.Calls.{afterInput, afterGate, afterOutput}
+use Rattle.drawing.specs.Drawing.{Drawing, newDrawing, mostNodes}
+use Rattle.family.specs.Supplied.{isWidth}
+
+-- a drawing and a width
+pub record Book : Type 0 where
+  pub drawing : Drawing
+  pub width : ℕ
+
+abbrev pub book : Drawing → ℕ → Book
+book d k = record { drawing = d; width = k }
+
+-- the book before any call: node 0 alone, no outputs, width 4
+abbrev pub newBook : Book
+newBook = book newDrawing 4
+
+-- what each call makes of the book; one that is refused leaves it
+abbrev pub inputBook : Book → Book
+inputBook b = book (afterInput (b .drawing)) (b .width)
+
+abbrev pub gateBook : Pair → Book → Book
+gateBook p b = book (afterGate (b .drawing) p) (b .width)
+
+abbrev pub outputBook : ℕ → Book → Book
+outputBook l b = book (afterOutput (b .drawing) l) (b .width)
+
+abbrev pub widthBook : ℕ → Book → Book
+widthBook k b = book (b .drawing) (cond (isWidth k) k (b .width))
+
+-- a width that a part has is accepted
+abbrev pub widthAnswer : ℕ → Result (Unit {0}) Refusal
+widthAnswer k = cond (isWidth k) (Ok tt) (Err BadWidth)
+
+-- nothing is kept
+abbrev pub nothing : List Bool
+nothing = replicate mostNodes false
+
+-- which lists are kept after the width is set: none if it changes, else those of before
+abbrev pub keptAfterWidth : ℕ → Book → List Bool → List Bool
+keptAfterWidth k b held = cond (isWidth k && not (eqb k (b .width))) nothing held

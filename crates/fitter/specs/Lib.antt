@@ -1,0 +1,4 @@
+pub mod Rows
+pub mod Keeping
+pub mod Book
+pub mod Jobs

@@ -1,0 +1,75 @@
+//! The calls that make a drawing and set the width.
+
+use super::Job;
+use crate::kept::Kept;
+use drawing::node::Pair;
+use drawing::refusal::Refusal;
+use drawing::table::Table;
+ghost use Rattle.drawing.specs.Calls.{gateAnswer, inputAnswer, outputAnswer, Unless};
+ghost use Rattle.drawing.specs.Drawing.{mostNodes};
+ghost use Rattle.fitter.specs.Book.{gateBook, inputBook, keptAfterWidth, newBook, outputBook, widthAnswer, widthBook};
+ghost use Rattle.fitter.specs.Jobs.{bookOf, keptOf};
+ghost use lib.ListN.{replicate};
+ghost use mathlib.Core.Bool.{false};
+ghost use mathlib.Core.Path.{_≡_};
+
+impl Job {
+    /// Node 0 alone, no outputs, width 4, and nothing kept.
+    pub fn new() -> Job
+        ensures book { λ r. ⌜ bookOf r ≡ newBook ⌝ }
+        ensures nothing { λ r. ⌜ keptOf r ≡ replicate mostNodes false ⌝ }
+    {
+        Job {
+            table: Table::new(),
+            width: 4,
+            lists: Kept::new(),
+        }
+    }
+
+    /// Adds an input, and answers its number.
+    pub fn input(&mut self) -> Result<u8, Refusal>
+        ensures answer { λ r. ⌜ r ≡ inputAnswer (bookOf (now (self .entry)) .drawing) ⌝ }
+        ensures book { λ _. ⌜ bookOf (now (self .exit)) ≡ inputBook (bookOf (now (self .entry))) ⌝ }
+        ensures lists { λ _. ⌜ keptOf (now (self .exit)) ≡ keptOf (now (self .entry)) ⌝ }
+        ensures refused { λ r. ⌜ Unless r (now (self .exit) ≡ now (self .entry)) ⌝ }
+    {
+        self.table.input()
+    }
+
+    /// Adds a gate, and answers its number.
+    pub fn gate(&mut self, pair: Pair) -> Result<u8, Refusal>
+        ensures answer { λ r. ⌜ r ≡ gateAnswer (bookOf (now (self .entry)) .drawing) pair ⌝ }
+        ensures book { λ _. ⌜ bookOf (now (self .exit)) ≡ gateBook pair (bookOf (now (self .entry))) ⌝ }
+        ensures lists { λ _. ⌜ keptOf (now (self .exit)) ≡ keptOf (now (self .entry)) ⌝ }
+        ensures refused { λ r. ⌜ Unless r (now (self .exit) ≡ now (self .entry)) ⌝ }
+    {
+        self.table.gate(pair)
+    }
+
+    /// Adds an output, and answers its place.
+    pub fn output(&mut self, literal: u16) -> Result<u8, Refusal>
+        ensures answer { λ r. ⌜ r ≡ outputAnswer (bookOf (now (self .entry)) .drawing) literal ⌝ }
+        ensures book { λ _. ⌜ bookOf (now (self .exit)) ≡ outputBook literal (bookOf (now (self .entry))) ⌝ }
+        ensures lists { λ _. ⌜ keptOf (now (self .exit)) ≡ keptOf (now (self .entry)) ⌝ }
+        ensures refused { λ r. ⌜ Unless r (now (self .exit) ≡ now (self .entry)) ⌝ }
+    {
+        self.table.output(literal)
+    }
+
+    /// Sets the width to 2, 3, 4 or 5. After a change nothing is kept.
+    pub fn width(&mut self, width: u8) -> Result<(), Refusal>
+        ensures answer { λ r. ⌜ r ≡ widthAnswer width ⌝ }
+        ensures book { λ _. ⌜ bookOf (now (self .exit)) ≡ widthBook width (bookOf (now (self .entry))) ⌝ }
+        ensures lists { λ _. ⌜ keptOf (now (self .exit)) ≡ keptAfterWidth width (bookOf (now (self .entry))) (keptOf (now (self .entry))) ⌝ }
+        ensures refused { λ r. ⌜ Unless r (now (self .exit) ≡ now (self .entry)) ⌝ }
+    {
+        if width < 2 || 5 < width {
+            return Err(Refusal::BadWidth);
+        }
+        if width != self.width {
+            self.lists.clear();
+            self.width = width;
+        }
+        Ok(())
+    }
+}

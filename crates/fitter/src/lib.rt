@@ -1,0 +1,4 @@
+//! The job: a drawing, a width and kept lists of cuts, and the calls that handle it.
+
+pub mod job;
+pub mod kept;
