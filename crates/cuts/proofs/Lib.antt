@@ -6,3 +6,4 @@ pub mod Survive
 pub mod Merge
 pub mod Unions
 pub mod Stable
+pub mod Rows

@@ -1,4 +1,6 @@
-//! Least cuts.
+//! Least cuts: stored cuts, and the making of a gate's list of least cuts from those of its fanins.
+
+pub mod cut;
 
 ghost use Rattle.cuts.specs.Claims.{Leaves-depend, Lists-join, Survivors-are};
 
