@@ -7,3 +7,4 @@ pub mod Merge
 pub mod Unions
 pub mod Stable
 pub mod Rows
+pub mod Noting
