@@ -8,3 +8,4 @@ pub mod Unions
 pub mod Stable
 pub mod Rows
 pub mod Noting
+pub mod Choosing
