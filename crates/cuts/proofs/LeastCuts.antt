@@ -135,7 +135,7 @@ beq-is true false h = absurd (both-ways false refl h)
 beq-is false true h = absurd (both-ways false refl h)
 beq-is false false h = refl
 
-kind-zero : (nodes : List Node) (f : ℕ) → sound nodes ≡ true → f < length nodes → isConstant (at nodes f) ≡ false → 0 < f
+pub kind-zero : (nodes : List Node) (f : ℕ) → sound nodes ≡ true → f < length nodes → isConstant (at nodes f) ≡ false → 0 < f
 kind-zero nodes f d l h =
     let e = beq-is _ _ (and-parts _ _ (sound-at nodes f d l) .0) in
     let n = eqb-false f 0 (sym e ∙ h) in
