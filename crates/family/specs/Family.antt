@@ -32,10 +32,14 @@ pub record Laws {A : Type 0} (F : Delay A) : Type 0 where
   pub wider : (r : A) (n : ℕ) → n < mostLeaves → F .notLater (F .result r n) (F .result r (suc n)) ≡ true
 
 module _ {A : Type 0} (F : Delay A) where
+  -- the later of two arrivals, the first where the second is not later
+  abbrev pub laterOf : A → A → A
+  laterOf r s = cond (F .notLater s r) r s
+
   -- the latest of an arrival and those behind it, the first of the latest where several are
   abbrev pub latestFrom : A → List A → A
   latestFrom best [] = best
-  latestFrom best (x ∷ xs) = latestFrom (cond (F .notLater x best) best x) xs
+  latestFrom best (x ∷ xs) = latestFrom (laterOf best x) xs
 
   -- the latest of some arrivals, the first of the latest where several are, and the start where there are none
   abbrev pub latest : List A → A

@@ -1,1 +1,3 @@
 pub mod Family
+pub mod Supplied
+pub mod Folds
