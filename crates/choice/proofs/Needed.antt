@@ -1,30 +1,30 @@
 -- The needed gates alone: their leaves are needed, so the table of the needed gates serves as well as the whole one.
-use Prim.Native.Nat.{ℕ, zero, suc, _+_, _-_, _≤_, _<_}
-use mathlib.Core.Path.{_≡_, refl, sym, ap, ap₂, subst, _∙_}
+use Prim.Native.Nat.{ℕ, _-_, _<_}
+use mathlib.Core.Path.{_≡_, refl, sym, ap, ap₂, _∙_}
 use mathlib.Core.Logic.{_⊎_, inl, inr, ⊎-elim}
-use mathlib.Core.Bool.{Bool, true, false, cond, not, _&&_, _||_}
-use mathlib.Core.List.{List, [], _∷_, _++_, map}
+use mathlib.Core.Bool.{true, false, cond, not, _&&_, _||_}
+use mathlib.Core.List.{List, [], _∷_, map}
 use native.Mathlib.Omega.{arith}
-use lib.Dec.{eqb, ltb, leb}
+use lib.Dec.{eqb}
 use lib.ListN.{length, getD, take}
-use Rattle.std.proofs.shelf.Tests.{and-parts, and-from, or-cases, or-left, or-right, eqb-true, both-ways, cases-bool, cond-true, cond-false, cond-both, not-from-true, and-right, and-left}
+use Rattle.std.proofs.shelf.Tests.{and-parts, and-from, or-cases, or-right, eqb-true, cases-bool, cond-false, cond-both, not-from-true, and-right, and-left}
 use Rattle.std.proofs.shelf.Lists.{getD-take}
 use Rattle.drawing.specs.declared.node.Node.{Node}
-use Rattle.drawing.specs.Sets.{mem, some, elem, In}
+use Rattle.drawing.specs.Sets.{mem, In}
 use Rattle.drawing.specs.Drawing.{at, nodeOf, fanins, isGate, sound}
 use Rattle.cuts.specs.Cuts.{leastCuts}
 use Rattle.drawing.specs.Reach.{depends, reach, reachOut, needed}
 use Rattle.family.specs.Family.{Delay, Laws, latest, cellArrival}
-use Rattle.choice.specs.Choice.{lexi, rather, takenFrom, taken, best, takenCut, isCell, tabled}
-use Rattle.choice.specs.Rivals.{arrivals, Rival, Outputs-first, Needed-suffice}
-use Rattle.drawing.proofs.Members.{in-mem, mem-in, elem-in, in-elem, some-in, in-some}
+use Rattle.choice.specs.Choice.{smaller, rather, takenFrom, taken, best, takenCut}
+use Rattle.choice.specs.Rivals.{Outputs-first, Needed-suffice}
+use Rattle.drawing.proofs.Members.{in-mem, elem-in, in-elem, some-in, in-some}
 use Rattle.drawing.proofs.Sound.{fanins-below}
-use Rattle.cuts.proofs.LeastCuts.{Least, list-in}
+use Rattle.cuts.proofs.LeastCuts.{list-in}
 use Rattle.cuts.proofs.Leaves.{leaves-depend}
-use Rattle.drawing.proofs.ReachLaws.{depends-down, reach-down, reach-range, reach-ways, reach-through, reach-trans}
+use Rattle.drawing.proofs.ReachLaws.{reach-trans}
 use Rattle.choice.proofs.Taken.{taken-in, taken-same}
 use Rattle.choice.proofs.Optimal.{best-plain, best-gate, best-is-first}
-use Rattle.choice.proofs.OwnCover.{own-rival, own-arrivals, gate-range, list-some, arrivals-plain}
+use Rattle.choice.proofs.OwnCover.{own-arrivals, gate-range, list-some}
 
 map-same : {X Y : Type 0} (f g : X → Y) (xs : List X) → ((a : X) → In a xs → f a ≡ g a) → map f xs ≡ map g xs
 map-same f g [] h = refl
@@ -41,7 +41,7 @@ module _ {A : Type 0} (F : Delay A) where
 
   rather-same : (a b : List A) (s t : List ℕ) → cellArrival F a s ≡ cellArrival F b s → cellArrival F a t ≡ cellArrival F b t → rather F a t s ≡ rather F b t s
   rather-same a b s t h k =
-      ap₂ (λ x y. not (F .notLater x y) || (F .notLater y x && (ltb (length t) (length s) || (eqb (length t) (length s) && lexi t s)))) h k
+      ap₂ (λ x y. not (F .notLater x y) || (F .notLater y x && smaller t s)) h k
 
   takenFrom-alike : (a b : List A) (s : List ℕ) (ts : List (List ℕ)) → cellArrival F a s ≡ cellArrival F b s → ((t : List ℕ) → In t ts → cellArrival F a t ≡ cellArrival F b t) → takenFrom F a s ts ≡ takenFrom F b s ts
   takenFrom-alike a b s [] h k = refl

@@ -1,35 +1,32 @@
 -- The cuts taken are a cover, and its arrivals are the best.
-use Prim.Native.Nat.{ℕ, zero, suc, _+_, _-_, _≤_, _<_}
+use Prim.Native.Nat.{ℕ, _-_, _≤_, _<_}
 use mathlib.Core.Path.{_≡_, refl, sym, ap, subst, _∙_}
-use mathlib.Core.Logic.{_⊎_, inl, inr, ⊎-elim}
-use mathlib.Core.Bool.{Bool, true, false, cond, not, _&&_, _||_}
-use mathlib.Core.List.{List, [], _∷_, _++_, map}
+use mathlib.Core.Logic.{_⊎_, ⊎-elim}
+use mathlib.Core.Bool.{true, false, cond}
+use mathlib.Core.List.{List, [], _∷_}
 use native.Mathlib.Omega.{arith}
-use lib.Dec.{eqb, ltb, leb}
 use lib.ListN.{length, getD, take}
-use Rattle.std.proofs.shelf.Tests.{and-parts, and-from, or-cases, or-left, or-right, eqb-true, eq-eqb, both-ways, cases-bool, cond-true, cond-both, cases-lt}
-use Rattle.std.proofs.shelf.Lists.{getD-take, getD-past, ext-getD, length-take-le, take-all}
+use Rattle.std.proofs.shelf.Tests.{and-parts, and-from, both-ways, cases-bool, cases-lt}
+use Rattle.std.proofs.shelf.Lists.{getD-past}
 use Rattle.drawing.specs.declared.node.Pair.{Pair}
 use Rattle.drawing.specs.declared.node.Node.{Node}
 use Rattle.drawing.specs.declared.node.Node.the-variants.{Constant, Input, Gate}
-use Rattle.drawing.specs.Sets.{mem, sub, rises, union, keep, every, some, In}
+use Rattle.drawing.specs.Sets.{union, In}
 use Rattle.drawing.specs.Column.{column}
-use Rattle.drawing.specs.Drawing.{at, nodeOf, fanins, isGate, isConstant, sound}
-use Rattle.cuts.specs.Cuts.{closes, cut, leastCuts}
-use Rattle.drawing.specs.Reach.{reach, reachOut}
+use Rattle.drawing.specs.Drawing.{at, nodeOf, fanins, isGate, sound}
+use Rattle.cuts.specs.Cuts.{leastCuts}
+use Rattle.drawing.specs.Reach.{reachOut}
 use Rattle.family.specs.Family.{Delay, Laws, cellArrival}
 use Rattle.choice.specs.Choice.{taken, bestStep, best, takenCut, edgesOf, isCell}
 use Rattle.choice.specs.Rivals.{rivalStep, arrivals, Rival, Best-is-reached}
-use Rattle.drawing.proofs.Members.{in-mem, mem-in, keep-in, in-keep}
-use Rattle.drawing.proofs.SetLaws.{Sub, part-length, mem-cases, mem-keep, rises-keep, mem-union, rises-union, length-union}
-use Rattle.drawing.proofs.ColumnLaws.{column-at, length-lower, length-column, column-same}
-use Rattle.cuts.proofs.Closing.{closes-by, closes-more, zeroth, member}
-use Rattle.drawing.proofs.Sound.{fanins-below, gate-of}
+use Rattle.drawing.proofs.Members.{in-mem, mem-in}
+use Rattle.drawing.proofs.SetLaws.{part-length, length-union}
+use Rattle.drawing.proofs.ColumnLaws.{column-at, length-lower, column-same}
+use Rattle.drawing.proofs.Sound.{gate-of}
 use Rattle.cuts.proofs.LeastCuts.{Cut, Least, says-cut, least-inside, in-list, list-in, single-choice}
 use Rattle.drawing.proofs.ReachLaws.{out-direct, out-down}
 use Rattle.choice.proofs.Taken.{taken-in}
 use Rattle.cuts.proofs.Enumerate.{union-cut, fBelow, gBelow}
-use Rattle.choice.proofs.Optimal.{best-plain, best-gate, arrivals-gate}
 
 pub gate-range : (nodes : List Node) (v : ℕ) → isGate (at nodes v) ≡ true → v < length nodes
 gate-range nodes v g = ⊎-elim (λ l. l) (λ l. absurd (both-ways false refl (rw (getD-past nodes v Constant l) at g))) (cases-lt v (length nodes))

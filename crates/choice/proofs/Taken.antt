@@ -1,17 +1,17 @@
 -- The cut that is taken does not hang on the list's order.
-use Prim.Native.Nat.{ℕ, zero, suc, _+_, _-_, _≤_, _<_}
-use mathlib.Core.Path.{_≡_, refl, sym, ap, subst, _∙_}
+use Prim.Native.Nat.{ℕ, _-_, _<_}
+use mathlib.Core.Path.{_≡_, refl, subst}
 use mathlib.Core.Logic.{_⊎_, inl, inr, ⊎-elim}
-use mathlib.Core.Bool.{Bool, true, false, cond, not, _&&_, _||_}
-use mathlib.Core.List.{List, [], _∷_, _++_, map}
+use mathlib.Core.Bool.{Bool, true, false, cond, _&&_, _||_}
+use mathlib.Core.List.{List, [], _∷_}
 use native.Mathlib.Omega.{arith}
-use lib.Dec.{eqb, ltb, leb}
+use lib.Dec.{eqb, ltb}
 use lib.ListN.{length}
-use Rattle.std.proofs.shelf.Tests.{and-parts, and-from, or-cases, or-parts, or-from, or-left, or-right, both-ways, cases-bool, cond-both, not-true, not-false, not-from-true, eqb-true, ltb-false, cases-order, lt-ltb, eq-eqb, and-cases, and-left, and-right, eqb-false}
+use Rattle.std.proofs.shelf.Tests.{and-parts, or-cases, or-parts, or-from, both-ways, cases-bool, cond-both, not-true, not-false, not-from-true, ltb-false, cases-order, and-cases, and-left, and-right}
 use Rattle.std.proofs.shelf.Ways.{tells}
 use Rattle.drawing.specs.Sets.{In}
 use Rattle.family.specs.Family.{Delay, Laws, cellArrival}
-use Rattle.choice.specs.Choice.{lexi, rather, takenFrom, taken}
+use Rattle.choice.specs.Choice.{lexi, smaller, rather, takenFrom, taken}
 
 head-equal : (x y : ℕ) (p q : Bool) → (ltb x y || (eqb x y && p)) ≡ false → (ltb y x || (eqb y x && q)) ≡ false → (x ≡ y) × (p ≡ false) × (q ≡ false)
 head-equal x y p q h k = grind (arith, tells)
@@ -36,17 +36,13 @@ lexi-trans (x ∷ xs) (y ∷ ys) [] l m h k = absurd (omega arith)
 lexi-trans (x ∷ xs) (y ∷ ys) (z ∷ zs) l m h k =
     head-trans x y z (lexi ys xs) (lexi zs ys) (lexi zs xs) h k (λ p q. lexi-trans xs ys zs (omega arith) (omega arith) p q)
 
--- fewer leaves, or the first difference
-abbrev shape : List ℕ → List ℕ → Bool
-shape t s = ltb (length t) (length s) || (eqb (length t) (length s) && lexi t s)
-
-shape-same : (s t : List ℕ) → shape s t ≡ false → shape t s ≡ false → s ≡ t
-shape-same s t h k =
+smaller-same : (s t : List ℕ) → smaller s t ≡ false → smaller t s ≡ false → s ≡ t
+smaller-same s t h k =
     let r = head-equal (length s) (length t) (lexi s t) (lexi t s) h k in
     lexi-same s t (r .0) (r .1) (r .2)
 
-shape-trans : (a b c : List ℕ) → shape b a ≡ false → shape c b ≡ false → shape c a ≡ false
-shape-trans a b c h k =
+smaller-trans : (a b c : List ℕ) → smaller b a ≡ false → smaller c b ≡ false → smaller c a ≡ false
+smaller-trans a b c h k =
     let p = or-parts (ltb (length b) (length a)) _ h in
     let q = or-parts (ltb (length c) (length b)) _ k in
     let la = ltb-false (length b) (length a) (p .0) in
@@ -67,23 +63,23 @@ lexi-asym s [] h = absurd (both-ways false refl h)
 lexi-asym [] (y ∷ ys) h = refl
 lexi-asym (x ∷ xs) (y ∷ ys) h = head-asym x y (lexi xs ys) (lexi ys xs) (λ e. lexi-asym xs ys e) h
 
-shape-asym : (s t : List ℕ) → shape s t ≡ true → shape t s ≡ false
-shape-asym s t h = head-asym (length s) (length t) (lexi s t) (lexi t s) (lexi-asym s t) h
+smaller-asym : (s t : List ℕ) → smaller s t ≡ true → smaller t s ≡ false
+smaller-asym s t h = head-asym (length s) (length t) (lexi s t) (lexi t s) (lexi-asym s t) h
 
-shape-irr : (s : List ℕ) → shape s s ≡ false
-shape-irr s = ⊎-elim (λ e. shape-asym s s e) (λ e. e) (cases-bool (shape s s))
+smaller-irr : (s : List ℕ) → smaller s s ≡ false
+smaller-irr s = ⊎-elim (λ e. smaller-asym s s e) (λ e. e) (cases-bool (smaller s s))
 
 module _ {A : Type 0} (F : Delay A) (L : Laws F) (tab : List A) where
   -- s is as good as t
   abbrev Good : List ℕ → List ℕ → Type 0
   Good s t = rather F tab t s ≡ false
 
-  good-parts : (s t : List ℕ) → Good s t → (F .notLater (cellArrival F tab s) (cellArrival F tab t) ≡ true) × (F .notLater (cellArrival F tab t) (cellArrival F tab s) ≡ true → shape t s ≡ false)
+  good-parts : (s t : List ℕ) → Good s t → (F .notLater (cellArrival F tab s) (cellArrival F tab t) ≡ true) × (F .notLater (cellArrival F tab t) (cellArrival F tab s) ≡ true → smaller t s ≡ false)
   good-parts s t h =
       let p = or-parts _ _ h in
       (not-false _ (p .0), λ e. ⊎-elim (λ x. absurd (both-ways _ x e)) (λ x. x) (and-cases _ _ (p .1)))
 
-  parts-good : (s t : List ℕ) → F .notLater (cellArrival F tab s) (cellArrival F tab t) ≡ true → (F .notLater (cellArrival F tab t) (cellArrival F tab s) ≡ true → shape t s ≡ false) → Good s t
+  parts-good : (s t : List ℕ) → F .notLater (cellArrival F tab s) (cellArrival F tab t) ≡ true → (F .notLater (cellArrival F tab t) (cellArrival F tab s) ≡ true → smaller t s ≡ false) → Good s t
   parts-good s t h k =
       or-from _ _ (not-from-true _ h) (⊎-elim (λ e. and-right _ _ (k e)) (λ e. and-left _ _ e) (cases-bool (F .notLater (cellArrival F tab t) (cellArrival F tab s))))
 
@@ -91,22 +87,22 @@ module _ {A : Type 0} (F : Delay A) (L : Laws F) (tab : List A) where
   good-trans a b c h k =
       let p = good-parts a b h in
       let q = good-parts b c k in
-      parts-good a c (L .trans _ _ _ (p .0) (q .0)) (λ e. shape-trans a b c (p .1 (L .trans _ _ _ (q .0) e)) (q .1 (L .trans _ _ _ e (p .0))))
+      parts-good a c (L .trans _ _ _ (p .0) (q .0)) (λ e. smaller-trans a b c (p .1 (L .trans _ _ _ (q .0) e)) (q .1 (L .trans _ _ _ e (p .0))))
 
   good-same : (s t : List ℕ) → Good s t → Good t s → s ≡ t
   good-same s t h k =
       let p = good-parts s t h in
       let q = good-parts t s k in
-      shape-same s t (q .1 (p .0)) (p .1 (q .0))
+      smaller-same s t (q .1 (p .0)) (p .1 (q .0))
 
   good-refl : (s : List ℕ) → Good s s
-  good-refl s = parts-good s s (⊎-elim (λ h. h) (λ h. h) (L .total _ _)) (λ _. shape-irr s)
+  good-refl s = parts-good s s (⊎-elim (λ h. h) (λ h. h) (L .total _ _)) (λ _. smaller-irr s)
 
   better-good : (t s : List ℕ) → rather F tab t s ≡ true → Good t s
   better-good t s h =
       ⊎-elim
       (λ e. let f = not-true _ e in parts-good t s (⊎-elim (λ x. absurd (both-ways _ f x)) (λ x. x) (L .total (cellArrival F tab s) (cellArrival F tab t))) (λ x. absurd (both-ways _ f x)))
-      (λ e. let p = and-parts (F .notLater (cellArrival F tab t) (cellArrival F tab s)) _ e in parts-good t s (p .0) (λ _. shape-asym t s (p .1)))
+      (λ e. let p = and-parts (F .notLater (cellArrival F tab t) (cellArrival F tab s)) _ e in parts-good t s (p .0) (λ _. smaller-asym t s (p .1)))
       (or-cases _ _ h)
 
   takenFrom-good : (s : List ℕ) (ts : List (List ℕ)) → Good (takenFrom F tab s ts) s × ((t : List ℕ) → In t ts → Good (takenFrom F tab s ts) t)

@@ -1,19 +1,17 @@
 -- Rivals: any cover of the drawing, and that none is earlier than the cuts that map takes.
-use Prim.Native.Nat.{ℕ, zero, suc, _+_, _≤_, _<_}
+use Prim.Native.Nat.{ℕ, _≤_, _<_}
 use mathlib.Core.Path.{_≡_}
-use mathlib.Core.Bool.{Bool, true, false, cond, not, _&&_, _||_}
-use mathlib.Core.List.{List, [], _∷_, map}
-use lib.Dec.{eqb, ltb}
-use lib.ListN.{length, getD, take}
-use Rattle.std.specs.Iters.{counting}
+use mathlib.Core.Bool.{Bool, true}
+use mathlib.Core.List.{List}
+use lib.ListN.{length, getD}
 use Rattle.drawing.specs.declared.node.Node.{Node}
 use Rattle.drawing.specs.declared.node.Node.the-variants.{Constant, Input, Gate}
-use Rattle.drawing.specs.Sets.{mem, keep, elem, In}
+use Rattle.drawing.specs.Sets.{mem, elem, In}
 use Rattle.drawing.specs.Column.{column}
 use Rattle.drawing.specs.Drawing.{at, nodeOf, isGate, sound}
-use Rattle.drawing.specs.Reach.{reachOut, needed}
+use Rattle.drawing.specs.Reach.{needed}
 use Rattle.cuts.specs.Cuts.{cut, leastCuts}
-use Rattle.family.specs.Family.{Delay, cellArrival}
+use Rattle.family.specs.Family.{Delay, cellArrival, mostLeaves}
 use Rattle.choice.specs.Choice.{taken, best, takenCut, isCell, tabled}
 
 module _ {A : Type 0} (F : Delay A) where
@@ -21,7 +19,7 @@ module _ {A : Type 0} (F : Delay A) where
   abbrev pub rivalStep : (ℕ → List ℕ) → List A → Node → A
   rivalStep given lower Constant = F .start
   rivalStep given lower Input = F .start
-  rivalStep given lower (Gate p) = cellArrival lower (given (length lower))
+  rivalStep given lower (Gate p) = cellArrival F lower (given (length lower))
 
   unfoldable pub arrivals : List Node → (ℕ → List ℕ) → List A
   arrivals nodes given = column (rivalStep given) nodes
@@ -35,7 +33,7 @@ pub record Rival (nodes : List Node) (outs : List ℕ) (k : ℕ) (chosen : ℕ �
 
 -- no rival is earlier, at any gate that it chooses
 abbrev pub Best-is-first : {A : Type 0} → Delay A → Type 0
-Best-is-first {A} F = (nodes : List Node) (outs : List ℕ) (k : ℕ) (chosen : ℕ → Bool) (given : ℕ → List ℕ) → k ≤ 5 → Rival nodes outs k chosen given → (v : ℕ) → chosen v ≡ true → F .notLater (getD (best F nodes k) v (F .start)) (getD (arrivals F nodes given) v (F .start)) ≡ true
+Best-is-first {A} F = (nodes : List Node) (outs : List ℕ) (k : ℕ) (chosen : ℕ → Bool) (given : ℕ → List ℕ) → k ≤ mostLeaves → Rival nodes outs k chosen given → (v : ℕ) → chosen v ≡ true → F .notLater (getD (best F nodes k) v (F .start)) (getD (arrivals F nodes given) v (F .start)) ≡ true
 
 -- the cuts taken are a cover, and its arrivals are the best
 abbrev pub Best-is-reached : {A : Type 0} → Delay A → Type 0
@@ -43,7 +41,7 @@ Best-is-reached {A} F = (nodes : List Node) (outs : List ℕ) (k : ℕ) → soun
 
 -- no rival is earlier, at any output
 abbrev pub Outputs-first : {A : Type 0} → Delay A → Type 0
-Outputs-first {A} F = (nodes : List Node) (outs : List ℕ) (k : ℕ) (chosen : ℕ → Bool) (given : ℕ → List ℕ) → sound nodes ≡ true → 2 ≤ k → k ≤ 5 → ((o : ℕ) → In o outs → nodeOf o < length nodes) → Rival nodes outs k chosen given → (o : ℕ) → In o outs → F .notLater (getD (arrivals F nodes (takenCut F nodes k)) (nodeOf o) (F .start)) (getD (arrivals F nodes given) (nodeOf o) (F .start)) ≡ true
+Outputs-first {A} F = (nodes : List Node) (outs : List ℕ) (k : ℕ) (chosen : ℕ → Bool) (given : ℕ → List ℕ) → sound nodes ≡ true → 2 ≤ k → k ≤ mostLeaves → ((o : ℕ) → In o outs → nodeOf o < length nodes) → Rival nodes outs k chosen given → (o : ℕ) → In o outs → F .notLater (getD (arrivals F nodes (takenCut F nodes k)) (nodeOf o) (F .start)) (getD (arrivals F nodes given) (nodeOf o) (F .start)) ≡ true
 
 -- the table of the needed gates alone serves as well: a needed gate takes the same cut by it, from its list in any order
 abbrev pub Needed-suffice : {A : Type 0} → Delay A → Type 0

@@ -2,7 +2,6 @@
 
 use crate::Family;
 use drawing::refusal::Refusal;
-ghost use Rattle.family.specs.Family.{Delay};
 ghost use Rattle.family.specs.Supplied.{isWidth, pins, MadeFor};
 ghost use mathlib.Core.Bool.{true};
 ghost use mathlib.Core.Path.{_≡_};
