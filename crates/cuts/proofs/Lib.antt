@@ -6,3 +6,5 @@ pub mod Survive
 pub mod Merge
 pub mod Unions
 pub mod Stable
+pub mod Rows
+pub mod Noting

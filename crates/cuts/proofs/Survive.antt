@@ -15,11 +15,11 @@ use Rattle.drawing.proofs.Members.{every-in, in-every, some-in, in-some, not-so
 use Rattle.drawing.proofs.SetLaws.{Sub, sub-says, says-sub, same-members}
 use Rattle.drawing.specs.declared.node.Node.{Node}
 use Rattle.drawing.specs.Drawing.{at, fanins, nodeOf, sound}
-use Rattle.cuts.specs.Cuts.{leastCuts, joined, minimal}
+use Rattle.cuts.specs.Cuts.{leastCuts, choices, unions, joins, joined, minimal, Alike}
 use Rattle.cuts.specs.Claims.{Survivors-are}
 use Rattle.drawing.proofs.Counts.{Once, same-length}
 use Rattle.cuts.proofs.LeastCuts.{once-list}
-use Rattle.cuts.proofs.Enumerate.{Minimal, minimal-says, says-minimal, joined-cut, list-joined, joined-list}
+use Rattle.cuts.proofs.Enumerate.{Minimal, minimal-says, says-minimal, unions-in, in-unions, joined-cut, list-joined, joined-list}
 use Rattle.std.proofs.shelf.Ways.{same-from-decides}
 
 -- kept has what is minimal among the seen
@@ -126,28 +126,52 @@ module _ (seen kept : List (List ℕ)) (f : Front seen kept) (rising : (s : List
       let e = m .1 (r .0) (f .from (r .0) (r .1)) (r .2) in
       rw e at (r .1)
 
-module _ (nodes : List Node) (d : sound nodes ≡ true) (k v f g : ℕ) (inside : v < length nodes) (isFans : fanins (at nodes v) ≡ f ∷ g ∷ []) where
-  rising : (s : List ℕ) → In s (joined nodes k f g) → rises 0 s ≡ true
-  rising s m = joined-cut nodes d k v f g inside isFans s m .0 .rising
+-- unions of the same choices, in any order
+pub alike-in : (xs ys : List (List ℕ)) → Alike xs ys → (s : List ℕ) → In s xs → In s ys
+alike-in xs ys h s m = elem-in s ys (sym (h s) ∙ in-elem s xs m)
 
-  survivor-listed : (s : List ℕ) → In s (survivors [] (joined nodes k f g)) → In s (leastCuts nodes k v)
-  survivor-listed s m = joined-list nodes d k v f g inside isFans s (says-minimal _ s (kept-minimal _ _ (front-all (joined nodes k f g)) rising s m))
+pub in-alike : (xs ys : List (List ℕ)) → ((s : List ℕ) → In s xs → In s ys) → ((s : List ℕ) → In s ys → In s xs) → Alike xs ys
+in-alike xs ys h k s = same-from-decides {P = In s ys} _ _ ((λ e. h s (elem-in s xs e)), (λ m. in-elem s xs (k s m))) (elem-in s ys, in-elem s ys)
 
-  listed-survivor : (s : List ℕ) → In s (leastCuts nodes k v) → In s (survivors [] (joined nodes k f g))
-  listed-survivor s m = minimal-kept _ _ (front-all (joined nodes k f g)) rising s (minimal-says _ s (list-joined nodes d k v f g inside isFans s m))
+joins-in : (k : ℕ) (lefts rights lefts′ rights′ : List (List ℕ)) → ((s : List ℕ) → In s lefts → In s lefts′) → ((s : List ℕ) → In s rights → In s rights′) → (w : List ℕ) → In w (joins k lefts rights) → In w (joins k lefts′ rights′)
+joins-in k lefts rights lefts′ rights′ f g w m =
+    let short : List ℕ → Bool = λ s. leb (length s) k in
+    let r = keep-in short w (unions lefts rights) m in
+    let q = unions-in w lefts rights (r .0) in
+    in-keep short w (unions lefts′ rights′) (subst (λ z. In z (unions lefts′ rights′)) (q .4) (in-unions (q .0) (q .1) lefts′ rights′ (f (q .0) (q .2)) (g (q .1) (q .3)))) (r .1)
 
-  pub survivors-list : (s : List ℕ) → elem s (survivors [] (joined nodes k f g)) ≡ elem s (leastCuts nodes k v)
-  survivors-list s =
-      same-from-decides {P = In s (leastCuts nodes k v)} _ _ ((λ h. survivor-listed s (elem-in s _ h)), (λ m. in-elem s _ (listed-survivor s m))) (elem-in s _, in-elem s _)
+-- what survives of the unions, seen in any order
+module _ (nodes : List Node) (d : sound nodes ≡ true) (k v f g : ℕ) (inside : v < length nodes) (isFans : fanins (at nodes v) ≡ f ∷ g ∷ [])
+    (seen : List (List ℕ)) (into : (s : List ℕ) → In s seen → In s (joined nodes k f g)) (onto : (s : List ℕ) → In s (joined nodes k f g) → In s seen) where
+  rising : (s : List ℕ) → In s seen → rises 0 s ≡ true
+  rising s m = joined-cut nodes d k v f g inside isFans s (into s m) .0 .rising
 
-  pub survivors-count : length (survivors [] (joined nodes k f g)) ≡ length (leastCuts nodes k v)
-  survivors-count = same-length _ _ (apart-once _ (front-all (joined nodes k f g) .alone)) (once-list nodes k v) survivor-listed listed-survivor
+  survivor-listed : (s : List ℕ) → In s (survivors [] seen) → In s (leastCuts nodes k v)
+  survivor-listed s m =
+      let q = kept-minimal seen _ (front-all seen) rising s m in
+      joined-list nodes d k v f g inside isFans s (says-minimal _ s (into s (q .0), λ t i h. q .1 t (onto t i) h))
+
+  listed-survivor : (s : List ℕ) → In s (leastCuts nodes k v) → In s (survivors [] seen)
+  listed-survivor s m =
+      let q = minimal-says _ s (list-joined nodes d k v f g inside isFans s m) in
+      minimal-kept seen _ (front-all seen) rising s (onto s (q .0), λ t i h. q .1 t (into t i) h)
+
+  survivors-list : Alike (survivors [] seen) (leastCuts nodes k v) × (length (survivors [] seen) ≡ length (leastCuts nodes k v))
+  survivors-list = (
+    in-alike _ _ survivor-listed listed-survivor,
+    same-length _ _ (apart-once _ (front-all seen .alone)) (once-list nodes k v) survivor-listed listed-survivor,
+  )
 
 pub survivors-are : Survivors-are
-survivors-are nodes k v p d l e =
+unfolding joined
+survivors-are nodes k v p d l e lefts rights a b =
     let f = nodeOf (p .left) in
     let g = nodeOf (p .right) in
-    (survivors-list nodes d k v f g l (rw e refl), survivors-count nodes d k v f g l (rw e refl))
+    let as′ = choices nodes k f in
+    let bs = choices nodes k g in
+    survivors-list nodes d k v f g l (rw e refl) (joins k lefts rights)
+    (joins-in k lefts rights as′ bs (alike-in lefts as′ a) (alike-in rights bs b))
+    (joins-in k as′ bs lefts rights (alike-in as′ lefts (λ s. sym (a s))) (alike-in bs rights (λ s. sym (b s))))
 
 pub add-passed : (kept : List (List ℕ)) (c : List ℕ) → some (λ m. sub m c) kept ≡ true → add kept c ≡ kept
 add-passed kept c h = rw h

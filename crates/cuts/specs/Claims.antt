@@ -9,7 +9,7 @@ use Rattle.drawing.specs.declared.node.Node.the-variants.{Constant, Input, Gate
 use Rattle.drawing.specs.Sets.{mem, elem}
 use Rattle.cuts.specs.Antichain.{survivors}
 use Rattle.drawing.specs.Drawing.{at, nodeOf, sound}
-use Rattle.cuts.specs.Cuts.{leastCuts, joined, minimal}
+use Rattle.cuts.specs.Cuts.{leastCuts, choices, joins, joined, minimal, Alike}
 use Rattle.drawing.specs.Reach.{depends}
 
 -- the list of a gate is what is minimal among the unions
@@ -20,6 +20,6 @@ Lists-join = (nodes : List Node) (k v : ℕ) (p : Pair) → sound nodes ≡ true
 abbrev pub Leaves-depend : Type 0
 Leaves-depend = (nodes : List Node) (k v u : ℕ) (s : List ℕ) → sound nodes ≡ true → v < length nodes → elem s (leastCuts nodes k v) ≡ true → mem u s ≡ true → depends nodes u v ≡ true
 
--- What survives of the unions is the list: the same sets, and as many.
+-- What survives of the unions of the choices, taken in any order, is the list: the same sets, and as many.
 abbrev pub Survivors-are : Type 0
-Survivors-are = (nodes : List Node) (k v : ℕ) (p : Pair) → sound nodes ≡ true → v < length nodes → at nodes v ≡ Gate p → let kept = survivors [] (joined nodes k (nodeOf (p .left)) (nodeOf (p .right))) in ((s : List ℕ) → elem s kept ≡ elem s (leastCuts nodes k v)) × (length kept ≡ length (leastCuts nodes k v))
+Survivors-are = (nodes : List Node) (k v : ℕ) (p : Pair) → sound nodes ≡ true → v < length nodes → at nodes v ≡ Gate p → (lefts rights : List (List ℕ)) → Alike lefts (choices nodes k (nodeOf (p .left))) → Alike rights (choices nodes k (nodeOf (p .right))) → let kept = survivors [] (joins k lefts rights) in Alike kept (leastCuts nodes k v) × (length kept ≡ length (leastCuts nodes k v))

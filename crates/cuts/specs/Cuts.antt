@@ -1,5 +1,6 @@
 -- Closing sets, cuts, least cuts and the list of a gate.
 use Prim.Native.Nat.{ℕ, zero, suc, _-_, _/_, _%_}
+use mathlib.Core.Path.{_≡_}
 use mathlib.Core.Bool.{Bool, true, false, cond, not, _&&_, _||_, Bool·beq}
 use mathlib.Core.List.{List, [], _∷_, _++_, map}
 use lib.Dec.{eqb, ltb, leb}
@@ -8,7 +9,7 @@ use Rattle.std.specs.Iters.{counting}
 use Rattle.drawing.specs.declared.node.Pair.{Pair}
 use Rattle.drawing.specs.declared.node.Node.{Node}
 use Rattle.drawing.specs.declared.node.Node.the-variants.{Constant, Input, Gate}
-use Rattle.drawing.specs.Sets.{mem, sub, rises, below, same, union, keep, some, every, subsets}
+use Rattle.drawing.specs.Sets.{mem, sub, rises, below, same, union, keep, some, every, subsets, elem}
 use Rattle.drawing.specs.Column.{column}
 use Rattle.drawing.specs.Drawing.{at, isGate, fanins}
 
@@ -53,5 +54,13 @@ unions (a ∷ rest) bs = map (union a) bs ++ unions rest bs
 abbrev pub minimal : List (List ℕ) → List (List ℕ)
 minimal sets = keep (λ s. not (some (λ t. sub t s && not (same t s)) sets)) sets
 
+-- the unions with at most k leaves
+abbrev pub joins : ℕ → List (List ℕ) → List (List ℕ) → List (List ℕ)
+joins k lefts rights = keep (λ s. leb (length s) k) (unions lefts rights)
+
 unfoldable pub joined : List Node → ℕ → ℕ → ℕ → List (List ℕ)
-joined nodes k f g = keep (λ s. leb (length s) k) (unions (choices nodes k f) (choices nodes k g))
+joined nodes k f g = joins k (choices nodes k f) (choices nodes k g)
+
+-- the same sets, in any order
+abbrev pub Alike : List (List ℕ) → List (List ℕ) → Type 0
+Alike xs ys = (s : List ℕ) → elem s xs ≡ elem s ys

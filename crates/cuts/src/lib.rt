@@ -1,4 +1,7 @@
-//! Least cuts.
+//! Least cuts: stored cuts, and the making of a gate's list of least cuts from those of its fanins.
+
+pub mod cut;
+pub mod list;
 
 ghost use Rattle.cuts.specs.Claims.{Leaves-depend, Lists-join, Survivors-are};
 

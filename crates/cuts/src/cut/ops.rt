@@ -1,0 +1,127 @@
+//! Making cuts, reading them, and joining two.
+
+use super::Cut;
+ghost use Prim.Native.Nat.{_<_, _≤_};
+ghost use Rattle.cuts.specs.Leaves.{leavesOf};
+ghost use Rattle.cuts.specs.Limits.{mostLeaves};
+ghost use Rattle.cuts.specs.Merging.{Stepped};
+ghost use Rattle.drawing.specs.Sets.{mem, rises, sub, union};
+ghost use Rattle.std.specs.Options.{Cases as BySome};
+ghost use lib.ListN.{drop, length};
+ghost use mathlib.Core.Bool.{true};
+ghost use mathlib.Core.List.{[], _∷_};
+ghost use mathlib.Core.Path.{_≡_};
+
+/// The most leaves that a cut has.
+pub const MOST_LEAVES: usize = 5;
+
+/// Whether the leaf is among those.
+fn contains(leaves: &[u8], leaf: u8) -> bool
+    ensures { λ r. ⌜ r ≡ mem leaf (now (leaves .entry)) ⌝ }
+{
+    for other in leaves {
+        if *other == leaf {
+            return true;
+        }
+    }
+    false
+}
+
+/// Whether each of the leaves is among the others.
+fn subset(leaves: &[u8], others: &[u8]) -> bool
+    ensures { λ r. ⌜ r ≡ sub (now (leaves .entry)) (now (others .entry)) ⌝ }
+{
+    for leaf in leaves {
+        if !contains(others, *leaf) {
+            return false;
+        }
+    }
+    true
+}
+
+/// A step of a merge: the leaf that comes next, and how far that goes on the left and on the right.
+#[derive(Clone, Copy)]
+struct Step {
+    leaf: u8,
+    left: usize,
+    right: usize,
+}
+
+/// The lowest of what is left of `a` from `i` on and of `b` from `j` on.
+fn lowest(a: &[u8], i: usize, b: &[u8], j: usize) -> Option<Step>
+    requires rising { ⌜ (rises 0 (now a) ≡ true) × (rises 0 (now b) ≡ true) ⌝ }
+    requires within { ⌜ (i ≤ length (now a)) × (j ≤ length (now b)) ⌝ }
+    ensures { λ r. ⌜ BySome r (union (drop i (now (a .entry))) (drop j (now (b .entry))) ≡ []) (λ t. Stepped (now (a .entry)) (now (b .entry)) i j (t .leaf) (t .left) (t .right)) ⌝ }
+{
+    if i < a.len() {
+        if j < b.len() {
+            if a[i] < b[j] {
+                Some(Step { leaf: a[i], left: i + 1, right: j })
+            } else if b[j] < a[i] {
+                Some(Step { leaf: b[j], left: i, right: j + 1 })
+            } else {
+                Some(Step { leaf: a[i], left: i + 1, right: j + 1 })
+            }
+        } else {
+            Some(Step { leaf: a[i], left: i + 1, right: j })
+        }
+    } else if j < b.len() {
+        Some(Step { leaf: b[j], left: i, right: j + 1 })
+    } else {
+        None
+    }
+}
+
+impl Cut {
+    /// No leaves.
+    pub fn empty() -> Cut
+        ensures { λ r. ⌜ leavesOf r ≡ [] ⌝ }
+    {
+        Cut { leaves: [0; MOST_LEAVES], len: 0 }
+    }
+
+    /// The one leaf `v`.
+    pub fn single(v: u8) -> Cut
+        requires { ⌜ 0 < v ⌝ }
+        ensures { λ r. ⌜ leavesOf r ≡ v ∷ [] ⌝ }
+    {
+        Cut { leaves: [v, 0, 0, 0, 0], len: 1 }
+    }
+
+    /// The leaves by rising number.
+    pub fn leaves(&self) -> &[u8]
+        ensures { λ r. ⌜ now r ≡ leavesOf (now (self .entry)) ⌝ }
+    {
+        &self.leaves[0..usize::from(self.len)]
+    }
+
+    /// Whether each leaf is one of the other cut's.
+    pub fn inside(&self, other: &Cut) -> bool
+        ensures { λ r. ⌜ r ≡ sub (leavesOf (now (self .entry))) (leavesOf (now (other .entry))) ⌝ }
+    {
+        subset(self.leaves(), other.leaves())
+    }
+
+    /// The leaves of both, unless they are more than `most`.
+    pub fn join(&self, other: &Cut, most: u8) -> Option<Cut>
+        requires { ⌜ most ≤ mostLeaves ⌝ }
+        ensures { λ r. ⌜ BySome r (most < length (union (leavesOf (now (self .entry))) (leavesOf (now (other .entry))))) (λ c. (leavesOf c ≡ union (leavesOf (now (self .entry))) (leavesOf (now (other .entry)))) × (length (leavesOf c) ≤ most)) ⌝ }
+    {
+        let a = self.leaves();
+        let b = other.leaves();
+        let mut leaves = [0u8; MOST_LEAVES];
+        let mut len = 0;
+        let mut i = 0;
+        let mut j = 0;
+        while let Some(step) = lowest(a, i, b, j) {
+            if len == most {
+                return None;
+            }
+            leaves[usize::from(len)] = step.leaf;
+            len += 1;
+            i = step.left;
+            j = step.right;
+        }
+        Some(Cut { leaves, len })
+    }
+}
