@@ -1,0 +1,4 @@
+pub mod Taken
+pub mod Optimal
+pub mod OwnCover
+pub mod Needed
