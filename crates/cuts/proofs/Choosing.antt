@@ -81,8 +81,8 @@ module _ (nodes : List Node) (v : ℕ) (p : Pair) (d : sound nodes ≡ true) (l 
     pub joins-listed : (lefts rights : List (List ℕ)) → lefts ≡ ways (setsOf left) (nodeOf (p .left)) (at nodes (nodeOf (p .left))) → rights ≡ ways (setsOf right) (nodeOf (p .right)) (at nodes (nodeOf (p .right))) → (rows : List Cut) → setsOf rows ≡ survivors [] (joins k lefts rights) → Lists nodes k v rows
     joins-listed lefts rights a b rows h =
         let kept = survivors-are nodes k v p d l e lefts rights
-          (λ s. ap (elem s) a ∙ choices-alike nodes k (nodeOf (p .left)) left first s)
-          (λ s. ap (elem s) b ∙ choices-alike nodes k (nodeOf (p .right)) right second s) in
+        (λ s. ap (elem s) a ∙ choices-alike nodes k (nodeOf (p .left)) left first s)
+        (λ s. ap (elem s) b ∙ choices-alike nodes k (nodeOf (p .right)) right second s) in
         ((λ s. ap (elem s) h ∙ kept .0 s), sym (length-map rows leavesOf) ∙ ap length h ∙ kept .1)
 
 -- the fanins by their literals

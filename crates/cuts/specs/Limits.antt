@@ -1,10 +1,10 @@
--- How many leaves a cut has, and how many cuts a list.
+-- How many cuts a list holds.
 use Prim.Native.Nat.{ℕ}
 
--- the most leaves that a cut has, at any width
-abbrev pub mostLeaves : ℕ
-mostLeaves = 5
+-- the most cuts that a list holds, at any width
+abbrev pub mostCuts : ℕ
+mostCuts = 32
 
 -- the most cuts that a list holds, by the width
 abbrev pub limit : ℕ → ℕ
-limit k = 32
+limit k = mostCuts

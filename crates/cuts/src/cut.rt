@@ -3,7 +3,7 @@
 pub mod ops;
 
 ghost use Prim.Native.Nat.{_≤_};
-ghost use Rattle.cuts.specs.Limits.{mostLeaves};
+ghost use Rattle.drawing.specs.Drawing.{mostLeaves};
 ghost use Rattle.drawing.specs.Sets.{rises};
 ghost use lib.ListN.{length, take};
 ghost use mathlib.Core.Bool.{true};

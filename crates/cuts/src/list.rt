@@ -7,7 +7,8 @@ ghost use Prim.Native.Nat.{suc, _+_, _*_, _<_, _≤_};
 ghost use Rattle.cuts.specs.Antichain.{add, survivors};
 ghost use Rattle.cuts.specs.Cuts.{joins, ways};
 ghost use Rattle.cuts.specs.Leaves.{leavesOf, setsOf};
-ghost use Rattle.cuts.specs.Limits.{limit, mostLeaves};
+ghost use Rattle.cuts.specs.Limits.{limit};
+ghost use Rattle.drawing.specs.Drawing.{mostLeaves};
 ghost use Rattle.cuts.specs.Lists.{AtHand, leftFanin, Lists, Made, rightFanin};
 ghost use Rattle.drawing.specs.Drawing.{at, isGate, nodeOf, sound};
 ghost use Rattle.drawing.specs.declared.node.Node.the-variants.{Gate};
@@ -133,7 +134,15 @@ fn put_choices(nodes: &[Node], fanin: u8, list: &[Cut], rows: &mut [Cut]) -> usi
 }
 
 /// Makes the list of a gate in the first rows, whatever its length, which is the answer.
-fn list_rows(nodes: &[Node], gate: u8, pair: Pair, width: u8, left: &[Cut], right: &[Cut], rows: &mut [Cut]) -> usize
+fn list_rows(
+    nodes: &[Node],
+    gate: u8,
+    pair: Pair,
+    width: u8,
+    left: &[Cut],
+    right: &[Cut],
+    rows: &mut [Cut],
+) -> usize
     requires drawn { ⌜ sound (now nodes) ≡ true ⌝ }
     requires tied { ⌜ (gate < length (now nodes)) × (at (now nodes) gate ≡ Gate pair) ⌝ }
     requires few { ⌜ width ≤ mostLeaves ⌝ }
@@ -153,7 +162,14 @@ fn list_rows(nodes: &[Node], gate: u8, pair: Pair, width: u8, left: &[Cut], righ
 /// Makes the list of a gate at the front of `out`, from the lists of its two fanins. The slice of a fanin
 /// that is no gate is not looked at. The answer is how many cuts the list has, or `None` if there are
 /// more than `MOST_CUTS`.
-pub fn make_list(nodes: &[Node], gate: u8, width: u8, left: &[Cut], right: &[Cut], out: &mut [Cut]) -> Option<usize>
+pub fn make_list(
+    nodes: &[Node],
+    gate: u8,
+    width: u8,
+    left: &[Cut],
+    right: &[Cut],
+    out: &mut [Cut],
+) -> Option<usize>
     requires drawn { ⌜ sound (now nodes) ≡ true ⌝ }
     requires tied { ⌜ isGate (at (now nodes) gate) ≡ true ⌝ }
     requires few { ⌜ width ≤ mostLeaves ⌝ }

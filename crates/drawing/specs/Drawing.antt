@@ -25,6 +25,10 @@ mostNodes = 256
 abbrev pub mostOutputs : ℕ
 mostOutputs = 64
 
+-- the most leaves that a cut or a cell has
+abbrev pub mostLeaves : ℕ
+mostLeaves = 5
+
 -- the node that a literal names: 2n is node n, and 2n + 1 is its inverse
 abbrev pub nodeOf : ℕ → ℕ
 nodeOf l = l / 2

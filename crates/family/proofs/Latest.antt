@@ -11,7 +11,8 @@ use Rattle.std.proofs.shelf.Tests.{both-ways, cond-both}
 use Rattle.drawing.specs.Sets.{mem, sub, In}
 use Rattle.drawing.proofs.Members.{in-map, map-in, in-mem, mem-in}
 use Rattle.drawing.proofs.SetLaws.{sub-says}
-use Rattle.family.specs.Family.{Delay, Laws, laterOf, latestFrom, latest, latestAmong, mostLeaves}
+use Rattle.family.specs.Family.{Delay, Laws, laterOf, latestFrom, latest, latestAmong}
+use Rattle.drawing.specs.Drawing.{mostLeaves}
 use Rattle.family.specs.Folds.{Earlier, Latest-is-last, Latest-rises, Part-not-later, More-not-earlier, Cell-not-later}
 
 module _ {A : Type 0} (F : Delay A) (L : Laws F) where

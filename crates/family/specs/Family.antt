@@ -5,10 +5,7 @@ use mathlib.Core.Logic.{_⊎_}
 use mathlib.Core.Bool.{Bool, true, cond}
 use mathlib.Core.List.{List, [], _∷_, map}
 use lib.ListN.{length, getD}
-
--- the most leaves that a cell has
-abbrev pub mostLeaves : ℕ
-mostLeaves = 5
+use Rattle.drawing.specs.Drawing.{mostLeaves}
 
 -- what a family tells: its width, its start, whether one arrival is not later than another, and the arrival
 -- of a cell's result from the latest arrival among the leaves and their number

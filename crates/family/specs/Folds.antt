@@ -5,7 +5,8 @@ use mathlib.Core.Bool.{true}
 use mathlib.Core.List.{List}
 use lib.ListN.{length, getD}
 use Rattle.drawing.specs.Sets.{mem, sub}
-use Rattle.family.specs.Family.{Delay, latestAmong, cellArrival, mostLeaves}
+use Rattle.family.specs.Family.{Delay, latestAmong, cellArrival}
+use Rattle.drawing.specs.Drawing.{mostLeaves}
 
 module _ {A : Type 0} (F : Delay A) where
   -- one table is not later than another at these leaves

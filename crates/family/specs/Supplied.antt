@@ -7,7 +7,8 @@ use Rattle.std.specs.declared.result.Result.{Result}
 use Rattle.std.specs.declared.result.Result.the-variants.{Ok, Err}
 use Rattle.drawing.specs.declared.refusal.Refusal.{Refusal}
 use Rattle.drawing.specs.declared.refusal.Refusal.the-variants.{BadWidth}
-use Rattle.family.specs.Family.{Delay, mostLeaves}
+use Rattle.family.specs.Family.{Delay}
+use Rattle.drawing.specs.Drawing.{mostLeaves}
 
 -- the widths that a part has
 abbrev pub isWidth : ℕ → Bool

@@ -3,7 +3,8 @@
 use crate::Family;
 ghost use Prim.Native.Nat.{_≤_};
 ghost use Rattle.drawing.specs.Sets.{below};
-ghost use Rattle.family.specs.Family.{cellArrival, laterOf, latestAmong, mostLeaves};
+ghost use Rattle.family.specs.Family.{cellArrival, laterOf, latestAmong};
+ghost use Rattle.drawing.specs.Drawing.{mostLeaves};
 ghost use Rattle.family.specs.Folds.{Cell-not-later, Latest-is-last, Latest-rises, More-not-earlier, Part-not-later};
 ghost use lib.ListN.{length};
 ghost use mathlib.Core.Bool.{true};

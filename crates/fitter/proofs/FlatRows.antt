@@ -27,12 +27,12 @@ module _ {X : Type 0} (flat list part : List X) (v k : ℕ) (few : length list �
       let b = u * mostCuts in
       let n = getD lens u 0 in
       let below : u < v → rowAt new lens u ≡ rowAt flat lens u = λ l.
-            let q : b + n - b ≡ n = omega arith in
-            ap (λ m. take m (drop b new)) (sym q) ∙ between-is new b (b + n)
-            ∙ ap (drop b) (take-putMid-below a k flat part (b + n) (omega arith) (omega arith))
-            ∙ sym (between-is flat b (b + n)) ∙ ap (λ m. take m (drop b flat)) q in
+      let q : b + n - b ≡ n = omega arith in
+      ap (λ m. take m (drop b new)) (sym q) ∙ between-is new b (b + n)
+      ∙ ap (drop b) (take-putMid-below a k flat part (b + n) (omega arith) (omega arith))
+      ∙ sym (between-is flat b (b + n)) ∙ ap (λ m. take m (drop b flat)) q in
       let above : v < u → rowAt new lens u ≡ rowAt flat lens u = λ l.
-            ap (take n) (drop-putMid a k flat part b (omega arith) (omega arith) (ap length is ∙ sym same)) in
+      ap (take n) (drop-putMid a k flat part b (omega arith) (omega arith) (ap length is ∙ sym same)) in
       ⊎-elim (λ e. absurd (ne e)) (⊎-elim below above) (cases-order u v)
 
 pub zeros-small : (n v : ℕ) → getD (replicate n 0) v 0 ≤ mostCuts

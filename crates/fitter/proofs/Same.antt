@@ -52,7 +52,7 @@ module _ (t : Table) (w : ℕ) (l : Kept) where
 pub same-job : (i j : Job) → i .table ≡ j .table → i .width ≡ j .width → i .lists ≡ j .lists → i ≡ j
 same-job i j e f h =
     subst (λ (t : Table). (p : Part t (j .width) (j .lists)) (g : Gates t (j .width) (j .lists)) (s : Listed t (j .width) (j .lists)) (c : Counted t (j .width) (j .lists)) → i ≡ made t (j .width) (j .lists) p g s c) e
-      (subst (λ (w : ℕ). (p : Part (i .table) w (j .lists)) (g : Gates (i .table) w (j .lists)) (s : Listed (i .table) w (j .lists)) (c : Counted (i .table) w (j .lists)) → i ≡ made (i .table) w (j .lists) p g s c) f
-        (subst (λ (l : Kept). (p : Part (i .table) (i .width) l) (g : Gates (i .table) (i .width) l) (s : Listed (i .table) (i .width) l) (c : Counted (i .table) (i .width) l) → i ≡ made (i .table) (i .width) l p g s c) h
-          (λ p g s c. same-made (i .table) (i .width) (i .lists) (i .part) p (i .gates) g (i .listed) s (i .counted) c)))
-      (j .part) (j .gates) (j .listed) (j .counted)
+    (subst (λ (w : ℕ). (p : Part (i .table) w (j .lists)) (g : Gates (i .table) w (j .lists)) (s : Listed (i .table) w (j .lists)) (c : Counted (i .table) w (j .lists)) → i ≡ made (i .table) w (j .lists) p g s c) f
+    (subst (λ (l : Kept). (p : Part (i .table) (i .width) l) (g : Gates (i .table) (i .width) l) (s : Listed (i .table) (i .width) l) (c : Counted (i .table) (i .width) l) → i ≡ made (i .table) (i .width) l p g s c) h
+    (λ p g s c. same-made (i .table) (i .width) (i .lists) (i .part) p (i .gates) g (i .listed) s (i .counted) c)))
+    (j .part) (j .gates) (j .listed) (j .counted)

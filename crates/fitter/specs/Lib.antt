@@ -2,3 +2,4 @@ pub mod Rows
 pub mod Keeping
 pub mod Book
 pub mod Jobs
+pub mod Making

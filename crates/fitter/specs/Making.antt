@@ -39,6 +39,11 @@ madeBelow b held v = length (keep (λ u. neededIn b u && not (getD held u false)
 abbrev pub keptBelow : Book → List Bool → ℕ → ℕ → Bool
 keptBelow b held v u = getD held u false || (ltb u v && neededIn b u)
 
+-- the fanins of v that are gates have their lists kept
+abbrev pub FaninsKept : Job → ℕ → Type 0
+FaninsKept j v =
+    (f : ℕ) → In f (fanins (at (bookOf j .drawing .nodes) v)) → isGate (at (bookOf j .drawing .nodes) f) ≡ true → getD (keptOf j) f false ≡ true
+
 -- the list of gate v is made, unless it was kept: whether it was made, or the refusal of a crowded gate, which leaves the job
 abbrev pub Making : ℕ → Job → Result Bool Refusal → Job → Type 0
 Making v i (Ok new) j =

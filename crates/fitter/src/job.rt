@@ -1,6 +1,7 @@
 //! A job.
 
 pub mod calls;
+mod making;
 
 use crate::kept::Kept;
 use drawing::table::Table;

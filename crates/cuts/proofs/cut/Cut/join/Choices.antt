@@ -3,7 +3,7 @@ use mathlib.Core.Path.{_≡_}
 use mathlib.Core.List.{_++_}
 use lib.ListN.{length, take, drop}
 use Rattle.drawing.specs.Sets.{union}
-use Rattle.cuts.specs.Limits.{mostLeaves}
+use Rattle.drawing.specs.Drawing.{mostLeaves}
 use Rattle.cuts.proofs.cut.Cut.join.Given as given
 
 abbrev pub Inv-loop-step : given.InvT-loop-step

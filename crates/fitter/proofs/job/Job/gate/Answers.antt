@@ -15,17 +15,22 @@ ghost-self c =
     let t = c .gate .last .self in
     let s = stays-node (drawingOf (j .table)) (drawingOf t) (Gate (c .args .pair)) (isOk (gateAnswer (drawingOf (j .table)) (c .args .pair))) (c .gate .ensures .after) (j .table .law) (t .law) in
     let old = drawingOf (j .table) .nodes in
-    let new = drawingOf t .nodes in
-    (j .part,
-      (gates-stay old new (j .width) (heldOf (j .lists)) (rowOf (j .lists)) s (j .gates),
-        (listed-stay old new (j .width) (heldOf (j .lists)) (rowOf (j .lists)) s (j .gates) (j .listed),
-          (counted-stay old new (j .width) (heldOf (j .lists)) (rowOf (j .lists)) s (j .gates) (j .counted), tt))))
+    let new = drawingOf t .nodes in (
+      j .part,
+      (
+        gates-stay old new (j .width) (heldOf (j .lists)) (rowOf (j .lists)) s (j .gates),
+        (
+          listed-stay old new (j .width) (heldOf (j .lists)) (rowOf (j .lists)) s (j .gates) (j .listed),
+          (counted-stay old new (j .width) (heldOf (j .lists)) (rowOf (j .lists)) s (j .gates) (j .counted), tt),
+        ),
+      ),
+    )
 
 pub returns : need.returns
 returns c =
-    record
-      { answer = c .gate .ensures .answer
-      ; book = ap (λ d. book d (c .args .self .now .width)) (c .gate .ensures .after)
-      ; lists = refl
-      ; refused = unless-same (c .gate .result) (λ e. same-job _ _ e refl refl) (c .gate .ensures .refused)
-      }
+    record {
+      answer = c .gate .ensures .answer;
+      book = ap (λ d. book d (c .args .self .now .width)) (c .gate .ensures .after);
+      lists = refl;
+      refused = unless-same (c .gate .result) (λ e. same-job _ _ e refl refl) (c .gate .ensures .refused);
+    }

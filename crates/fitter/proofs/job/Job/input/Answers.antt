@@ -15,17 +15,22 @@ ghost-self c =
     let t = c .input .last .self in
     let s = stays-node (drawingOf (j .table)) (drawingOf t) Input (isOk (inputAnswer (drawingOf (j .table)))) (c .input .ensures .after) (j .table .law) (t .law) in
     let old = drawingOf (j .table) .nodes in
-    let new = drawingOf t .nodes in
-    (j .part,
-      (gates-stay old new (j .width) (heldOf (j .lists)) (rowOf (j .lists)) s (j .gates),
-        (listed-stay old new (j .width) (heldOf (j .lists)) (rowOf (j .lists)) s (j .gates) (j .listed),
-          (counted-stay old new (j .width) (heldOf (j .lists)) (rowOf (j .lists)) s (j .gates) (j .counted), tt))))
+    let new = drawingOf t .nodes in (
+      j .part,
+      (
+        gates-stay old new (j .width) (heldOf (j .lists)) (rowOf (j .lists)) s (j .gates),
+        (
+          listed-stay old new (j .width) (heldOf (j .lists)) (rowOf (j .lists)) s (j .gates) (j .listed),
+          (counted-stay old new (j .width) (heldOf (j .lists)) (rowOf (j .lists)) s (j .gates) (j .counted), tt),
+        ),
+      ),
+    )
 
 pub returns : need.returns
 returns c =
-    record
-      { answer = c .input .ensures .answer
-      ; book = ap (λ d. book d (c .args .self .now .width)) (c .input .ensures .after)
-      ; lists = refl
-      ; refused = unless-same (c .input .result) (λ e. same-job _ _ e refl refl) (c .input .ensures .refused)
-      }
+    record {
+      answer = c .input .ensures .answer;
+      book = ap (λ d. book d (c .args .self .now .width)) (c .input .ensures .after);
+      lists = refl;
+      refused = unless-same (c .input .result) (λ e. same-job _ _ e refl refl) (c .input .ensures .refused);
+    }

@@ -15,17 +15,22 @@ ghost-self c =
     let t = c .output .last .self in
     let s = stays-output (drawingOf (j .table)) (drawingOf t) (drawingOf (j .table) .outputs ++ c .args .literal ∷ []) (isOk (outputAnswer (drawingOf (j .table)) (c .args .literal))) (c .output .ensures .after) in
     let old = drawingOf (j .table) .nodes in
-    let new = drawingOf t .nodes in
-    (j .part,
-      (gates-stay old new (j .width) (heldOf (j .lists)) (rowOf (j .lists)) s (j .gates),
-        (listed-stay old new (j .width) (heldOf (j .lists)) (rowOf (j .lists)) s (j .gates) (j .listed),
-          (counted-stay old new (j .width) (heldOf (j .lists)) (rowOf (j .lists)) s (j .gates) (j .counted), tt))))
+    let new = drawingOf t .nodes in (
+      j .part,
+      (
+        gates-stay old new (j .width) (heldOf (j .lists)) (rowOf (j .lists)) s (j .gates),
+        (
+          listed-stay old new (j .width) (heldOf (j .lists)) (rowOf (j .lists)) s (j .gates) (j .listed),
+          (counted-stay old new (j .width) (heldOf (j .lists)) (rowOf (j .lists)) s (j .gates) (j .counted), tt),
+        ),
+      ),
+    )
 
 pub returns : need.returns
 returns c =
-    record
-      { answer = c .output .ensures .answer
-      ; book = ap (λ d. book d (c .args .self .now .width)) (c .output .ensures .after)
-      ; lists = refl
-      ; refused = unless-same (c .output .result) (λ e. same-job _ _ e refl refl) (c .output .ensures .refused)
-      }
+    record {
+      answer = c .output .ensures .answer;
+      book = ap (λ d. book d (c .args .self .now .width)) (c .output .ensures .after);
+      lists = refl;
+      refused = unless-same (c .output .result) (λ e. same-job _ _ e refl refl) (c .output .ensures .refused);
+    }

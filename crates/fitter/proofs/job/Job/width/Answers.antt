@@ -6,6 +6,7 @@ use Rattle.fitter.proofs.job.Job.width.Needs as need
 
 pub ghost-self : need.ghost-self
 ghost-self c =
-    let none = nothing-kept _ mostNodes (c .clear .ensures) in
-    (and-from _ _ (le-leb 2 (c .args .width) (omega arith)) (le-leb (c .args .width) 5 (omega arith)),
-      ((λ v h. absurd (none v h)), ((λ v h s. absurd (none v h)), ((λ v h. absurd (none v h)), tt))))
+    let none = nothing-kept _ mostNodes (c .clear .ensures) in (
+      and-from _ _ (le-leb 2 (c .args .width) (omega arith)) (le-leb (c .args .width) 5 (omega arith)),
+      ((λ v h. absurd (none v h)), ((λ v h s. absurd (none v h)), ((λ v h. absurd (none v h)), tt))),
+    )

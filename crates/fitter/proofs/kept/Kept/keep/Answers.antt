@@ -18,10 +18,10 @@ returns c =
     let k = c .args .self .now in
     let v = c .args .v in
     let lens = set (k .lens) v (length (c .args .list .now)) in
-    record
-      { held = refl
-      ; row = c .put-row .ensures .here lens (getD-set-same (k .lens) v _ 0 (omega arith))
-      ; others = λ u ne.
+    record {
+      held = refl;
+      row = c .put-row .ensures .here lens (getD-set-same (k .lens) v _ 0 (omega arith));
+      others = λ u ne.
           c .put-row .ensures .others lens u ne (lens-small (k .lens) v _ u (k .short) (c .pre))
-          ∙ ap (λ n. take n (drop (u * mostCuts) (k .cuts))) (getD-set-other (k .lens) v u _ 0 ne)
-      }
+          ∙ ap (λ n. take n (drop (u * mostCuts) (k .cuts))) (getD-set-other (k .lens) v u _ 0 ne);
+    }

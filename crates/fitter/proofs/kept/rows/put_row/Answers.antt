@@ -6,7 +6,7 @@ pub returns : need.returns
 returns c =
     let a = c .args in
     let put = c .copy-from-slice in
-    record
-      { here = row-put (a .flat .now) (a .list .now) (put .last .self) (a .v) _ (c .pre .short) (put .ensures .after) (omega arith) (omega arith)
-      ; others = row-kept (a .flat .now) (a .list .now) (put .last .self) (a .v) _ (c .pre .short) (put .ensures .after) (omega arith) (omega arith)
-      }
+    record {
+      here = row-put (a .flat .now) (a .list .now) (put .last .self) (a .v) _ (c .pre .short) (put .ensures .after) (omega arith) (omega arith);
+      others = row-kept (a .flat .now) (a .list .now) (put .last .self) (a .v) _ (c .pre .short) (put .ensures .after) (omega arith) (omega arith);
+    }

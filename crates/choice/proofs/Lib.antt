@@ -1,4 +1,0 @@
-pub mod Taken
-pub mod Optimal
-pub mod OwnCover
-pub mod Needed
