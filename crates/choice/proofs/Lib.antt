@@ -2,3 +2,4 @@ pub mod Taken
 pub mod Optimal
 pub mod OwnCover
 pub mod Needed
+pub mod Marking

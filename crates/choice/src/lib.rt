@@ -1,5 +1,7 @@
 //! How map chooses among cuts, and which nodes it has to look at.
 
+pub mod marks;
+
 use family::Family;
 ghost use Rattle.choice.specs.Rivals.{Best-is-first, Best-is-reached, Needed-suffice, Outputs-first};
 

@@ -56,17 +56,37 @@ fn lowest(a: &[u8], i: usize, b: &[u8], j: usize) -> Option<Step>
     if i < a.len() {
         if j < b.len() {
             if a[i] < b[j] {
-                Some(Step { leaf: a[i], left: i + 1, right: j })
+                Some(Step {
+                    leaf: a[i],
+                    left: i + 1,
+                    right: j,
+                })
             } else if b[j] < a[i] {
-                Some(Step { leaf: b[j], left: i, right: j + 1 })
+                Some(Step {
+                    leaf: b[j],
+                    left: i,
+                    right: j + 1,
+                })
             } else {
-                Some(Step { leaf: a[i], left: i + 1, right: j + 1 })
+                Some(Step {
+                    leaf: a[i],
+                    left: i + 1,
+                    right: j + 1,
+                })
             }
         } else {
-            Some(Step { leaf: a[i], left: i + 1, right: j })
+            Some(Step {
+                leaf: a[i],
+                left: i + 1,
+                right: j,
+            })
         }
     } else if j < b.len() {
-        Some(Step { leaf: b[j], left: i, right: j + 1 })
+        Some(Step {
+            leaf: b[j],
+            left: i,
+            right: j + 1,
+        })
     } else {
         None
     }
@@ -77,7 +97,10 @@ impl Cut {
     pub fn empty() -> Cut
         ensures { λ r. ⌜ leavesOf r ≡ [] ⌝ }
     {
-        Cut { leaves: [0; MOST_LEAVES], len: 0 }
+        Cut {
+            leaves: [0; MOST_LEAVES],
+            len: 0,
+        }
     }
 
     /// The one leaf `v`.
@@ -85,7 +108,10 @@ impl Cut {
         requires { ⌜ 0 < v ⌝ }
         ensures { λ r. ⌜ leavesOf r ≡ v ∷ [] ⌝ }
     {
-        Cut { leaves: [v, 0, 0, 0, 0], len: 1 }
+        Cut {
+            leaves: [v, 0, 0, 0, 0],
+            len: 1,
+        }
     }
 
     /// The leaves by rising number.

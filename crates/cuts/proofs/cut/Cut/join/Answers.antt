@@ -18,8 +18,7 @@ returns-then-len-most c =
 pub loop-step-again : need.loop-step-again
 loop-step-again c =
     let s = c .in-Some .ensures tt in
-    let less : c .loop-step .len < c .args .most = omega arith in
-    (
+    let less : c .loop-step .len < c .args .most = omega arith in (
       s .first .1,
       s .second .1,
       omega arith,
