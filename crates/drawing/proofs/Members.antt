@@ -7,6 +7,7 @@ use mathlib.Core.Bool.{Bool, true, false, cond, not, _&&_, _||_}
 use mathlib.Core.List.{List, [], _∷_, _++_, map}
 use native.Mathlib.Omega.{arith}
 use lib.Dec.{eqb, ltb, leb}
+use lib.ListN.{length, getD}
 use Rattle.std.proofs.shelf.Tests.{and-parts, and-from, or-cases, or-left, or-right, eqb-true, eq-eqb, both-ways, cases-bool, not-true, cases-order}
 use Rattle.drawing.specs.Sets.{mem, same, keep, some, every, elem, In}
 
@@ -119,3 +120,9 @@ pub counting-in : (a n v : ℕ) → In v (counting a n) → (a ≤ v) × (v < a 
 counting-in a zero v m = elim m [ ]
 counting-in a (suc n) v (inl e) = omega arith
 counting-in a (suc n) v (inr m) = let r = counting-in (a + 1) n v m in omega arith
+
+-- an element, by its place
+pub every-at : {X : Type 0} (p : X → Bool) (xs : List X) (i : ℕ) (d : X) → every p xs ≡ true → i < length xs → p (getD xs i d) ≡ true
+every-at p [] i d h l = absurd (omega arith)
+every-at p (x ∷ xs) zero d h l = and-parts _ _ h .0
+every-at p (x ∷ xs) (suc i) d h l = every-at p xs i d (and-parts _ _ h .1) (omega arith)

@@ -39,6 +39,10 @@ pub some-map : {X Y : Type 0} (p : Y → Bool) (f : X → Y) (xs : List X) → s
 some-map p f [] = refl
 some-map p f (x ∷ xs) = ap (λ b. p (f x) || b) (some-map p f xs)
 
+pub every-map : {X Y : Type 0} (p : Y → Bool) (f : X → Y) (xs : List X) → every p (map f xs) ≡ every (λ x. p (f x)) xs
+every-map p f [] = refl
+every-map p f (x ∷ xs) = ap (λ b. p (f x) && b) (every-map p f xs)
+
 -- A loop that pushes what passes.
 module _ {X Y : Type 0} (f : X → Y) (p : Y → Bool) (xs ys : List X) (i : ℕ) (x : X) (l : i < length xs) (e : x ≡ getD xs i x) (inv : map f ys ≡ keep p (map f (take i xs))) where
   next-front : keep p (map f (take (i + 1) xs)) ≡ keep p (map f (take i xs)) ++ cond (p (f x)) (f x ∷ []) []

@@ -6,11 +6,11 @@ use mathlib.Core.Bool.{Bool, true, false, cond, not, _&&_, _||_}
 use mathlib.Core.List.{List, [], _∷_, _++_, map}
 use native.Mathlib.Omega.{arith}
 use lib.Dec.{eqb, ltb, leb}
-use lib.ListN.{length}
+use lib.ListN.{length, getD}
 use Rattle.std.proofs.shelf.Tests.{and-parts, and-from, or-cases, or-left, or-right, eqb-true, eqb-false, eq-eqb, both-ways, cases-bool, not-true, ltb-true, ltb-false, lt-ltb, cases-order, cases-lt, cond-both}
 use Rattle.std.proofs.shelf.Ways.{tells}
 use Rattle.drawing.specs.Sets.{mem, sub, rises, below, insert, union, keep, subsets, In}
-use Rattle.drawing.proofs.Members.{in-mem, mem-in, in-append, in-append-left, in-append-right, in-map, map-in}
+use Rattle.drawing.proofs.Members.{in-mem, mem-in, every-at, in-append, in-append-left, in-append-right, in-map, map-in}
 
 -- each member of s is in t
 abbrev pub Sub : List ℕ → List ℕ → Type 0
@@ -178,6 +178,12 @@ below-says n (x ∷ xs) u b m =
 pub says-below : (n : ℕ) (s : List ℕ) → ((u : ℕ) → mem u s ≡ true → u < n) → below n s ≡ true
 says-below n [] h = refl
 says-below n (x ∷ xs) h = and-from _ _ (lt-ltb x n (h x (mem-head x xs))) (says-below n xs (λ u m. h u (or-right _ _ m)))
+
+pub below-at : (n : ℕ) (s : List ℕ) (i : ℕ) → below n s ≡ true → i < length s → getD s i 0 < n
+below-at n s i b l = ltb-true _ n (every-at (λ x. ltb x n) s i 0 b l)
+
+pub below-more : (m n : ℕ) (s : List ℕ) → m ≤ n → below m s ≡ true → below n s ≡ true
+below-more m n s l b = says-below n s (λ u i. omega (arith, below-says m s u b i))
 
 -- what a test keeps of a set
 pub mem-keep : (p : ℕ → Bool) (u : ℕ) (s : List ℕ) → mem u (keep p s) ≡ (mem u s && p u)

@@ -1,5 +1,5 @@
 -- The loop that folds the latest arrival.
-use Prim.Native.Nat.{ℕ, zero, suc, _+_, _≤_, _<_}
+use Prim.Native.Nat.{ℕ, _+_, _≤_, _<_}
 use mathlib.Core.Path.{_≡_, refl, sym, ap, _∙_}
 use mathlib.Core.Bool.{Bool, true, false, cond}
 use mathlib.Core.List.{List, [], _∷_, map}
@@ -7,19 +7,12 @@ use native.Mathlib.Omega.{arith}
 use lib.Dec.{eqb}
 use lib.ListN.{length, getD, drop}
 use Rattle.std.proofs.shelf.Lists.{at-drop-more, at-drop-all, getD-read}
-use Rattle.std.proofs.shelf.Tests.{and-parts, ltb-true, eqb-false}
-use Rattle.drawing.specs.Sets.{below}
+use Rattle.std.proofs.shelf.Tests.{eqb-false}
 use Rattle.family.specs.Family.{Delay, laterOf, latestFrom, latestAmong}
 
 cond-same : {A : Type 0} (b : Bool) (x : A) → cond b x x ≡ x
 cond-same true x = refl
 cond-same false x = refl
-
--- a leaf below n, by its place
-pub below-at : (n : ℕ) (leaves : List ℕ) (i : ℕ) → below n leaves ≡ true → i < length leaves → getD leaves i 0 < n
-below-at n [] i b l = absurd (omega arith)
-below-at n (u ∷ us) zero b l = ltb-true u n (and-parts _ _ b .0)
-below-at n (u ∷ us) (suc i) b l = below-at n us i (and-parts _ _ b .1) (omega arith)
 
 -- the first leaf, where there is one
 pub some-leaf : (leaves : List ℕ) → false ≡ eqb (length leaves) 0 → 0 < length leaves

@@ -2,7 +2,8 @@ use native.Mathlib.Omega.{arith}
 use mathlib.Core.Path.{sym, _∙_}
 use lib.ListN.{length}
 use Rattle.std.proofs.shelf.Tests.{eqb-true}
-use Rattle.family.proofs.Loop.{below-at, some-leaf, fold-none, fold-start, fold-more, fold-all}
+use Rattle.drawing.proofs.SetLaws.{below-at}
+use Rattle.family.proofs.Loop.{some-leaf, fold-none, fold-start, fold-more, fold-all}
 use Rattle.family.proofs.fold.latest.Needs as need
 
 pub index-table-leaves : need.index-table-leaves

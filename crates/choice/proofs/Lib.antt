@@ -1,0 +1,5 @@
+pub mod Taken
+pub mod Optimal
+pub mod OwnCover
+pub mod Needed
+pub mod Marking

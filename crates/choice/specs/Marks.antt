@@ -1,0 +1,16 @@
+-- Marks at nodes, and the marks of what the outputs reach downwards.
+use Prim.Native.Nat.{ℕ}
+use mathlib.Core.Path.{_≡_}
+use mathlib.Core.Bool.{Bool, true, false}
+use mathlib.Core.List.{List, [], _∷_}
+use lib.ListN.{getD, set}
+use Rattle.drawing.specs.Reach.{reachOut}
+
+-- the marks, and one more at each of those nodes
+abbrev pub markAll : List Bool → List ℕ → List Bool
+markAll marks [] = marks
+markAll marks (u ∷ us) = markAll (set marks u true) us
+
+-- marked is exactly what the outputs reach by the edges
+abbrev pub Marks : (ℕ → List ℕ) → ℕ → List ℕ → List Bool → Type 0
+Marks edges size outs marks = (v : ℕ) → getD marks v false ≡ reachOut edges size outs v
