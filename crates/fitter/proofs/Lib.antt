@@ -2,3 +2,4 @@ pub mod FlatRows
 pub mod Stays
 pub mod Same
 pub mod AtHand
+pub mod Progress

@@ -15,9 +15,14 @@ use Rattle.drawing.specs.Reach.{needed}
 use Rattle.drawing.specs.Sets.{keep, In}
 use Rattle.cuts.specs.Cuts.{leastCuts}
 use Rattle.cuts.specs.Limits.{limit}
+use Rattle.choice.specs.Marks.{Marks}
 use Rattle.fitter.specs.declared.job.Job.{Job}
 use Rattle.fitter.specs.Book.{Book}
 use Rattle.fitter.specs.Jobs.{bookOf, keptOf}
+
+-- marked is exactly what the outputs depend on
+abbrev pub MarksNeeded : Drawing → List Bool → Type 0
+MarksNeeded d marks = Marks (λ w. fanins (at (d .nodes) w)) (length (d .nodes)) (d .outputs) marks
 
 -- a gate with more least cuts than a list holds
 abbrev pub tooMany : Book → ℕ → Bool
@@ -66,3 +71,20 @@ pub record Stopped (i : Job) (g : ℕ) (j : Job) : Type 0 where
 abbrev pub MakingAll : Job → Result ℕ Refusal → Job → Type 0
 MakingAll i (Ok n) j = Ready i n j
 MakingAll i (Err e) j = (g : ℕ) × (e ≡ Crowded g) × Stopped i g j
+
+-- the same for any node v: only a needed gate's list is made
+abbrev pub MakingNeeded : ℕ → Job → Result Bool Refusal → Job → Type 0
+MakingNeeded v i (Ok new) j =
+    (bookOf j ≡ bookOf i) × ((u : ℕ) → getD (keptOf j) u false ≡ (getD (keptOf i) u false || (eqb u v && neededIn (bookOf i) u)))
+    × (new ≡ (neededIn (bookOf i) v && not (getD (keptOf i) v false)))
+MakingNeeded v i (Err e) j = (j ≡ i) × (e ≡ Crowded v) × (crowdedAt (bookOf i) v ≡ true)
+
+-- the needed gates below v were gone through, and so many lists were made
+pub record Progress (i : Job) (v n : ℕ) (j : Job) : Type 0 where
+  pub same : bookOf j ≡ bookOf i
+  pub kept : (u : ℕ) → getD (keptOf j) u false ≡ keptBelow (bookOf i) (keptOf i) v u
+  pub made : n ≡ madeBelow (bookOf i) (keptOf i) v
+
+-- the needed gates below v have their lists kept
+abbrev pub KeptUpTo : Job → ℕ → Type 0
+KeptUpTo j v = (u : ℕ) → u < v → neededIn (bookOf j) u ≡ true → getD (keptOf j) u false ≡ true

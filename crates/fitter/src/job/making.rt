@@ -6,12 +6,12 @@ use cuts::list::MOST_CUTS;
 use cuts::list::make_list;
 use drawing::node::Node;
 use drawing::refusal::Refusal;
-ghost use Prim.Native.Nat.{ℕ, _≤_};
+ghost use Prim.Native.Nat.{_<_, _≤_};
 ghost use Rattle.cuts.specs.Limits.{limit};
 ghost use Rattle.cuts.specs.Lists.{Made};
 ghost use Rattle.drawing.specs.Drawing.{at, isGate};
 ghost use Rattle.fitter.specs.Jobs.{bookOf};
-ghost use Rattle.fitter.specs.Making.{FaninsKept, Making};
+ghost use Rattle.fitter.specs.Making.{FaninsKept, KeptUpTo, Making, MakingAll, MakingNeeded, MarksNeeded, neededIn};
 ghost use lib.ListN.{length};
 ghost use mathlib.Core.Bool.{true};
 ghost use mathlib.Core.Path.{_≡_};
@@ -50,5 +50,41 @@ impl Job {
             }
             None => Err(Refusal::Crowded(v)),
         }
+    }
+
+    /// Whether node v is a needed gate.
+    fn needs(&self, v: u8, marks: &[bool; 256]) -> bool
+        requires inside { ⌜ v < length (bookOf (now self) .drawing .nodes) ⌝ }
+        requires marked { ⌜ MarksNeeded (bookOf (now self) .drawing) (now marks) ⌝ }
+        ensures { λ r. ⌜ r ≡ neededIn (bookOf (now (self .entry))) v ⌝ }
+    {
+        self.table.nodes()[v as usize].is_gate() && marks[v as usize]
+    }
+
+    /// Makes and keeps the list of node v if it is a needed gate, unless it is kept. The answer is whether it was made.
+    fn make_needed(&mut self, v: u8, marks: &[bool; 256]) -> Result<bool, Refusal>
+        requires inside { ⌜ v < length (bookOf (now self) .drawing .nodes) ⌝ }
+        requires marked { ⌜ MarksNeeded (bookOf (now self) .drawing) (now marks) ⌝ }
+        requires below { ⌜ KeptUpTo (now self) v ⌝ }
+        ensures { λ r. ⌜ MakingNeeded v (now (self .entry)) r (now (self .exit)) ⌝ }
+    {
+        if !self.needs(v, marks) {
+            return Ok(false);
+        }
+        self.make(v)
+    }
+
+    /// Makes and keeps the lists that the needed gates lack, by rising number, and answers how many these were.
+    pub(crate) fn make_lists(&mut self, marks: &[bool; 256]) -> Result<usize, Refusal>
+        requires { ⌜ MarksNeeded (bookOf (now self) .drawing) (now marks) ⌝ }
+        ensures { λ r. ⌜ MakingAll (now (self .entry)) r (now (self .exit)) ⌝ }
+    {
+        let mut made = 0;
+        for v in 0..self.table.nodes().len() {
+            if self.make_needed(v as u8, marks)? {
+                made += 1;
+            }
+        }
+        Ok(made)
     }
 }
