@@ -5,7 +5,7 @@ ghost use Prim.Native.Nat.{_<_, _≤_};
 ghost use Rattle.cuts.specs.Leaves.{leavesOf};
 ghost use Rattle.cuts.specs.Limits.{mostLeaves};
 ghost use Rattle.cuts.specs.Merging.{Stepped};
-ghost use Rattle.drawing.specs.Sets.{mem, rises, sub, union};
+ghost use Rattle.drawing.specs.Sets.{rises, sub, union};
 ghost use Rattle.std.specs.Options.{Cases as BySome};
 ghost use lib.ListN.{drop, length};
 ghost use mathlib.Core.Bool.{true};
@@ -15,28 +15,24 @@ ghost use mathlib.Core.Path.{_≡_};
 /// The most leaves that a cut has.
 pub const MOST_LEAVES: usize = 5;
 
-/// Whether the leaf is among those.
-fn contains(leaves: &[u8], leaf: u8) -> bool
-    ensures { λ r. ⌜ r ≡ mem leaf (now (leaves .entry)) ⌝ }
-{
-    for other in leaves {
-        if *other == leaf {
-            return true;
-        }
-    }
-    false
-}
-
 /// Whether each of the leaves is among the others.
 fn subset(leaves: &[u8], others: &[u8]) -> bool
+    requires rising { ⌜ (rises 0 (now leaves) ≡ true) × (rises 0 (now others) ≡ true) ⌝ }
     ensures { λ r. ⌜ r ≡ sub (now (leaves .entry)) (now (others .entry)) ⌝ }
 {
-    for leaf in leaves {
-        if !contains(others, *leaf) {
+    let mut found = 0;
+    for other in others {
+        if found == leaves.len() {
+            return true;
+        }
+        if leaves[found] < *other {
             return false;
         }
+        if leaves[found] == *other {
+            found += 1;
+        }
     }
-    true
+    found == leaves.len()
 }
 
 /// A step of a merge: the leaf that comes next, and how far that goes on the left and on the right.
