@@ -10,3 +10,4 @@ pub mod Inside
 pub mod Rows
 pub mod Noting
 pub mod Choosing
+pub mod Apart

@@ -22,10 +22,10 @@ ghost use mathlib.Core.Path.{_≡_};
 pub const MOST_CUTS: usize = 32;
 
 /// The most choices at a fanin: the node itself, and the cuts of its list.
-const MOST_CHOICES: usize = 33;
+const MOST_CHOICES: usize = MOST_CUTS + 1;
 
 /// The most joins of two choices.
-const ALL_JOINS: usize = 1089;
+const ALL_JOINS: usize = MOST_CHOICES * MOST_CHOICES;
 
 /// Whether some of the rows lies inside the cut.
 fn dominated(rows: &[Cut], cut: &Cut) -> bool
@@ -108,9 +108,9 @@ fn enumerate(left: &[Cut], right: &[Cut], most: u8, rows: &mut [Cut]) -> usize
 fn put_choices(nodes: &[Node], fanin: u8, list: &[Cut], rows: &mut [Cut]) -> usize
     requires drawn { ⌜ sound (now nodes) ≡ true ⌝ }
     requires inside { ⌜ fanin < length (now nodes) ⌝ }
-    requires some { ⌜ 0 < length (now rows) ⌝ }
+    requires start { ⌜ 0 < length (now rows) ⌝ }
     requires room { ⌜ (isGate (at (now nodes) fanin) ≡ true → length (now list) < length (now rows)) ⌝ }
-    ensures within { λ r. ⌜ r ≤ length (now (rows .entry)) ⌝ }
+    ensures within { λ r. ⌜ (0 < r) × (r ≤ length (now (rows .entry))) ⌝ }
     ensures put { λ r. ⌜ setsOf (take r (now (rows .exit))) ≡ ways (setsOf (now (list .entry))) fanin (at (now (nodes .entry)) fanin) ⌝ }
 {
     match nodes[usize::from(fanin)] {
@@ -133,7 +133,15 @@ fn put_choices(nodes: &[Node], fanin: u8, list: &[Cut], rows: &mut [Cut]) -> usi
 }
 
 /// Makes the list of a gate in the first rows, whatever its length, which is the answer.
-fn list_rows(nodes: &[Node], gate: u8, pair: Pair, width: u8, left: &[Cut], right: &[Cut], rows: &mut [Cut]) -> usize
+fn list_rows(
+    nodes: &[Node],
+    gate: u8,
+    pair: Pair,
+    width: u8,
+    left: &[Cut],
+    right: &[Cut],
+    rows: &mut [Cut],
+) -> usize
     requires drawn { ⌜ sound (now nodes) ≡ true ⌝ }
     requires tied { ⌜ (gate < length (now nodes)) × (at (now nodes) gate ≡ Gate pair) ⌝ }
     requires few { ⌜ width ≤ mostLeaves ⌝ }
@@ -143,6 +151,7 @@ fn list_rows(nodes: &[Node], gate: u8, pair: Pair, width: u8, left: &[Cut], righ
     ensures within { λ r. ⌜ r ≤ length (now (rows .entry)) ⌝ }
     ensures made { λ r. ⌜ Lists (now (nodes .entry)) width gate (take r (now (rows .exit))) ⌝ }
 {
+    // a fanin is below its gate, so its number fits
     let mut lefts = [Cut::empty(); MOST_CHOICES];
     let mut rights = [Cut::empty(); MOST_CHOICES];
     let left_count = put_choices(nodes, (pair.left / 2) as u8, left, &mut lefts);
@@ -153,7 +162,14 @@ fn list_rows(nodes: &[Node], gate: u8, pair: Pair, width: u8, left: &[Cut], righ
 /// Makes the list of a gate at the front of `out`, from the lists of its two fanins. The slice of a fanin
 /// that is no gate is not looked at. The answer is how many cuts the list has, or `None` if there are
 /// more than `MOST_CUTS`.
-pub fn make_list(nodes: &[Node], gate: u8, width: u8, left: &[Cut], right: &[Cut], out: &mut [Cut]) -> Option<usize>
+pub fn make_list(
+    nodes: &[Node],
+    gate: u8,
+    width: u8,
+    left: &[Cut],
+    right: &[Cut],
+    out: &mut [Cut],
+) -> Option<usize>
     requires drawn { ⌜ sound (now nodes) ≡ true ⌝ }
     requires tied { ⌜ isGate (at (now nodes) gate) ≡ true ⌝ }
     requires few { ⌜ width ≤ mostLeaves ⌝ }

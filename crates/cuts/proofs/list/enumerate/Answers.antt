@@ -16,7 +16,7 @@ pub loop-cut-again : need.loop-cut-again
 loop-cut-again c = (
   count-more (c .loop-cut .count) (c .note-all-count .result) (c .loop-cut .cut-index) (length (c .args .right .now)) (c .loop-cut .inv .0) (c .note-all-count .ensures .more),
   choice-noted leavesOf (λ s. leb (length s) (c .args .most)) (c .args .left .now) (c .loop-cut .cut-index) (c .cut-item .result) (c .loop-cut-test .taken) (c .cut-item .is)
-  (setsOf (c .args .right .now)) (setsOf (take (c .loop-cut .count) (c .loop-cut .rows))) _ (c .loop-cut .inv .1) (c .note-all-count .ensures .noted),
+      (setsOf (c .args .right .now)) (setsOf (take (c .loop-cut .count) (c .loop-cut .rows))) _ (c .loop-cut .inv .1) (c .note-all-count .ensures .noted),
 )
 
 pub note-all-count-requires : need.note-all-count-requires

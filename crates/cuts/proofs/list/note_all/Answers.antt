@@ -23,23 +23,21 @@ loop-other-again c =
     let x = c .other-item .result in
     elim (c .match-join .came) [
       | in-Some w ↦
-        (let e = w .in-Some .ensures tt in
-        (
-          omega (arith, w .noted-is, w .note-noted .ensures .more, c .loop-other .inv .0),
-          ap (λ n. setsOf (take n (c .match-join .rows))) (w .noted-is)
-          ∙ ap (λ z. setsOf (take (w .note-noted .result) z)) (w .rows-is)
-          ∙ pair-noted leavesOf short (c .args .others .now) (c .loop-other .other-index) x (c .loop-other-test .taken) (c .other-item .is) start rows a (c .loop-other .inv .1)
-            _ (subst (λ z. leb (length z) (c .args .most) ≡ true) (e .0) (le-leb _ _ (e .1)))
-            (w .note-noted .ensures .noted ∙ ap (add rows) (e .0)),
-        ))
-      | in-rest w ↦
-        (
-          omega (arith, w .noted-is, c .loop-other .inv .0),
-          ap (λ n. setsOf (take n (c .match-join .rows))) (w .noted-is)
-          ∙ ap (λ z. setsOf (take (c .loop-other .noted) z)) (w .rows-is)
-          ∙ pair-passed leavesOf short (c .args .others .now) (c .loop-other .other-index) x (c .loop-other-test .taken) (c .other-item .is) start rows a (c .loop-other .inv .1)
+          (let e = w .in-Some .ensures tt in (
+            omega (arith, w .noted-is, w .note-noted .ensures .more, c .loop-other .inv .0),
+            ap (λ n. setsOf (take n (c .match-join .rows))) (w .noted-is)
+                ∙ ap (λ z. setsOf (take (w .note-noted .result) z)) (w .rows-is)
+                ∙ pair-noted leavesOf short (c .args .others .now) (c .loop-other .other-index) x (c .loop-other-test .taken) (c .other-item .is) start rows a (c .loop-other .inv .1)
+                _ (subst (λ z. leb (length z) (c .args .most) ≡ true) (e .0) (le-leb _ _ (e .1)))
+                (w .note-noted .ensures .noted ∙ ap (add rows) (e .0)),
+          ))
+      | in-rest w ↦ (
+        omega (arith, w .noted-is, c .loop-other .inv .0),
+        ap (λ n. setsOf (take n (c .match-join .rows))) (w .noted-is)
+            ∙ ap (λ z. setsOf (take (c .loop-other .noted) z)) (w .rows-is)
+            ∙ pair-passed leavesOf short (c .args .others .now) (c .loop-other .other-index) x (c .loop-other-test .taken) (c .other-item .is) start rows a (c .loop-other .inv .1)
             (lt-leb (length (union a (leavesOf x))) (c .args .most) (w .in-rest .ensures tt)),
-        )
+      )
     ]
 
 pub returns : need.returns

@@ -12,9 +12,9 @@ pub loop-i-again : need.loop-i-again
 loop-i-again c =
     elim (c .if-not-inside .came) [
       | then-not-inside w ↦ keeping-at (w .rows-is) (w .stay-is)
-        (keeping-more-set (c .loop-i .inv) (omega arith) (ap not (sym (c .inside .ensures) ∙ w .if-not-inside .taken)) (c .index-rows-i .is))
+          (keeping-more-set (c .loop-i .inv) (omega arith) (ap not (sym (c .inside .ensures) ∙ w .if-not-inside .taken)) (c .index-rows-i .is))
       | else-not-inside w ↦ keeping-at (w .rows-is) (w .stay-is)
-        (keeping-more-no (c .loop-i .inv) (omega arith) (ap not (sym (c .inside .ensures) ∙ w .if-not-inside .left)) (c .index-rows-i .is))
+          (keeping-more-no (c .loop-i .inv) (omega arith) (ap not (sym (c .inside .ensures) ∙ w .if-not-inside .left)) (c .index-rows-i .is))
     ]
 
 pub returns : need.returns

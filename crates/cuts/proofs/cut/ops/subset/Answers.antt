@@ -22,18 +22,16 @@ loop-other-again c =
     let i = c .loop-other .found in
     let j = c .loop-other .other-index in
     elim (c .if-leaves-found-2 .came) [
-      | then-leaves-found-2 w ↦
-        (
-          omega (arith, w .found-is),
-          ap (λ n. sub (drop n s) (drop (j + 1) t)) (w .found-is)
-          ∙ inside-next s t (c .pre .rising .0) (c .pre .rising .1) i j (c .loop-other .inv .1) (omega arith) (omega arith) (sym (w .if-leaves-found-2 .taken)),
-        )
-      | else-leaves-found-2 w ↦
-        (
-          omega (arith, w .found-is),
-          ap (λ n. sub (drop n s) (drop (j + 1) t)) (w .found-is)
-          ∙ inside-skip s t (c .pre .rising .0) (c .pre .rising .1) i j (c .loop-other .inv .1) (omega arith) (omega arith) (omega (arith, w .if-leaves-found-2 .left)),
-        )
+      | then-leaves-found-2 w ↦ (
+        omega (arith, w .found-is),
+        ap (λ n. sub (drop n s) (drop (j + 1) t)) (w .found-is)
+            ∙ inside-next s t (c .pre .rising .0) (c .pre .rising .1) i j (c .loop-other .inv .1) (omega arith) (omega arith) (sym (w .if-leaves-found-2 .taken)),
+      )
+      | else-leaves-found-2 w ↦ (
+        omega (arith, w .found-is),
+        ap (λ n. sub (drop n s) (drop (j + 1) t)) (w .found-is)
+            ∙ inside-skip s t (c .pre .rising .0) (c .pre .rising .1) i j (c .loop-other .inv .1) (omega arith) (omega arith) (omega (arith, w .if-leaves-found-2 .left)),
+      )
     ]
 
 pub returns : need.returns
