@@ -86,11 +86,14 @@ module _ (nodes : List Node) (v : ℕ) (p : Pair) (d : sound nodes ≡ true) (l 
         ((λ s. ap (elem s) h ∙ kept .0 s), sym (length-map rows leavesOf) ∙ ap length h ∙ kept .1)
 
 -- the fanins by their literals
-pub left-at-hand : (nodes : List Node) (k v : ℕ) (p : Pair) (rows : List Cut) → at nodes v ≡ Gate p → AtHand nodes k (leftFanin nodes v) rows → AtHand nodes k (nodeOf (p .left)) rows
-left-at-hand nodes k v p rows e h = subst (λ f. AtHand nodes k f rows) (ap (λ n. getD (fanins n) 0 0) e) h
+pub left-fanin : (nodes : List Node) (v : ℕ) (p : Pair) → at nodes v ≡ Gate p → leftFanin nodes v ≡ nodeOf (p .left)
+left-fanin nodes v p e = ap (λ n. getD (fanins n) 0 0) e
 
-pub right-at-hand : (nodes : List Node) (k v : ℕ) (p : Pair) (rows : List Cut) → at nodes v ≡ Gate p → AtHand nodes k (rightFanin nodes v) rows → AtHand nodes k (nodeOf (p .right)) rows
-right-at-hand nodes k v p rows e h = subst (λ f. AtHand nodes k f rows) (ap (λ n. getD (fanins n) 1 0) e) h
+pub right-fanin : (nodes : List Node) (v : ℕ) (p : Pair) → at nodes v ≡ Gate p → rightFanin nodes v ≡ nodeOf (p .right)
+right-fanin nodes v p e = ap (λ n. getD (fanins n) 1 0) e
+
+pub at-hand : (nodes : List Node) (k f g : ℕ) (rows : List Cut) → f ≡ g → AtHand nodes k f rows → AtHand nodes k g rows
+at-hand nodes k f g rows e h = subst (λ f. AtHand nodes k f rows) e h
 
 -- the first n rows, copied
 pub copied-list : (nodes : List Node) (k v n m : ℕ) (rows front rest : List Cut) → n ≤ length rows → m ≡ n → front ≡ take m rows → Lists nodes k v (take n rows) → Lists nodes k v (take n (front ++ rest))

@@ -23,10 +23,10 @@ ghost use mathlib.Core.Path.{_≡_};
 pub const MOST_CUTS: usize = 32;
 
 /// The most choices at a fanin: the node itself, and the cuts of its list.
-const MOST_CHOICES: usize = 33;
+const MOST_CHOICES: usize = MOST_CUTS + 1;
 
 /// The most joins of two choices.
-const ALL_JOINS: usize = 1089;
+const ALL_JOINS: usize = MOST_CHOICES * MOST_CHOICES;
 
 /// Whether some of the rows lies inside the cut.
 fn dominated(rows: &[Cut], cut: &Cut) -> bool
@@ -109,9 +109,9 @@ fn enumerate(left: &[Cut], right: &[Cut], most: u8, rows: &mut [Cut]) -> usize
 fn put_choices(nodes: &[Node], fanin: u8, list: &[Cut], rows: &mut [Cut]) -> usize
     requires drawn { ⌜ sound (now nodes) ≡ true ⌝ }
     requires inside { ⌜ fanin < length (now nodes) ⌝ }
-    requires some { ⌜ 0 < length (now rows) ⌝ }
+    requires start { ⌜ 0 < length (now rows) ⌝ }
     requires room { ⌜ (isGate (at (now nodes) fanin) ≡ true → length (now list) < length (now rows)) ⌝ }
-    ensures within { λ r. ⌜ r ≤ length (now (rows .entry)) ⌝ }
+    ensures within { λ r. ⌜ (0 < r) × (r ≤ length (now (rows .entry))) ⌝ }
     ensures put { λ r. ⌜ setsOf (take r (now (rows .exit))) ≡ ways (setsOf (now (list .entry))) fanin (at (now (nodes .entry)) fanin) ⌝ }
 {
     match nodes[usize::from(fanin)] {
@@ -152,6 +152,7 @@ fn list_rows(
     ensures within { λ r. ⌜ r ≤ length (now (rows .entry)) ⌝ }
     ensures made { λ r. ⌜ Lists (now (nodes .entry)) width gate (take r (now (rows .exit))) ⌝ }
 {
+    // a fanin is below its gate, so its number fits
     let mut lefts = [Cut::empty(); MOST_CHOICES];
     let mut rights = [Cut::empty(); MOST_CHOICES];
     let left_count = put_choices(nodes, (pair.left / 2) as u8, left, &mut lefts);

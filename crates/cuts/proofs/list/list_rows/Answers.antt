@@ -14,7 +14,7 @@ put-choices-left-count-requires c κs =
     record {
       drawn = c .pre .drawn;
       inside = omega (arith, left-below (c .args .nodes .now) (c .args .gate) (c .args .pair) (c .pre .drawn) (c .pre .tied .0) (c .pre .tied .1));
-      some = omega arith;
+      start = omega arith;
       room = λ g. omega (arith, c .pre .first g .1);
     }
 
@@ -26,7 +26,7 @@ put-choices-right-count-requires c κs =
     record {
       drawn = c .pre .drawn;
       inside = omega (arith, right-below (c .args .nodes .now) (c .args .gate) (c .args .pair) (c .pre .drawn) (c .pre .tied .0) (c .pre .tied .1));
-      some = omega arith;
+      start = omega arith;
       room = λ g. omega (arith, c .pre .second g .1);
     }
 

@@ -1,7 +1,7 @@
 use native.Mathlib.Omega.{arith}
 use mathlib.Core.Path.{_≡_, refl}
 use Rattle.drawing.specs.declared.node.Node.the-variants.{Gate}
-use Rattle.cuts.proofs.Choosing.{gate-inside, read-at, left-at-hand, right-at-hand, copied-list}
+use Rattle.cuts.proofs.Choosing.{gate-inside, read-at, left-fanin, right-fanin, at-hand, copied-list}
 use Rattle.cuts.proofs.list.make_list.Needs as need
 
 pub index : need.index
@@ -19,8 +19,8 @@ list-rows-count-requires c κs =
       drawn = c .pre .drawn;
       tied = (gate-inside nodes (c .args .gate) (c .pre .tied), here);
       few = c .pre .few;
-      first = left-at-hand nodes (c .args .width) (c .args .gate) p (c .args .left .now) here (c .pre .first);
-      second = right-at-hand nodes (c .args .width) (c .args .gate) p (c .args .right .now) here (c .pre .second);
+      first = at-hand nodes (c .args .width) _ _ (c .args .left .now) (left-fanin nodes (c .args .gate) p here) (c .pre .first);
+      second = at-hand nodes (c .args .width) _ _ (c .args .right .now) (right-fanin nodes (c .args .gate) p here) (c .pre .second);
       room = omega arith;
     }
 

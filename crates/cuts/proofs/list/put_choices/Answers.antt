@@ -21,7 +21,7 @@ pub returns-in-Constant : need.returns-in-Constant
 returns-in-Constant c =
     record {
       within = omega arith;
-      put = one-choice-put leavesOf (c .args .rows .now) (c .pre .some) (c .empty .result) [] (c .empty .ensures)
+      put = one-choice-put leavesOf (c .args .rows .now) (c .pre .start) (c .empty .result) [] (c .empty .ensures)
           ∙ sym (ap (ways (setsOf (c .args .list .now)) (c .args .fanin)) (read-at (c .args .nodes .now) (c .from .result) (c .args .fanin) Constant (c .from .ensures) (c .in-Constant .is)));
     }
 
@@ -29,7 +29,7 @@ pub returns-in-Input : need.returns-in-Input
 returns-in-Input c =
     record {
       within = omega arith;
-      put = one-choice-put leavesOf (c .args .rows .now) (c .pre .some) (c .single .result) (c .args .fanin ∷ []) (c .single .ensures)
+      put = one-choice-put leavesOf (c .args .rows .now) (c .pre .start) (c .single .result) (c .args .fanin ∷ []) (c .single .ensures)
           ∙ sym (ap (ways (setsOf (c .args .list .now)) (c .args .fanin)) (read-at (c .args .nodes .now) (c .from .result) (c .args .fanin) Input (c .from .ensures) (c .in-Input .is)));
     }
 
@@ -38,6 +38,6 @@ returns-in-Gate c =
     let here = read-at (c .args .nodes .now) (c .from .result) (c .args .fanin) (Gate (c .in-Gate .field-0)) (c .from .ensures) (c .in-Gate .is) in
     record {
       within = omega (arith, c .pre .room (ap isGate here));
-      put = choices-put leavesOf (c .args .rows .now) (c .pre .some) (c .single-in-Gate .result) (c .args .fanin ∷ []) (c .single-in-Gate .ensures) (c .args .list .now) (c .copy-from-slice .last .self) _ _ (c .copy-from-slice .ensures .after) refl
+      put = choices-put leavesOf (c .args .rows .now) (c .pre .start) (c .single-in-Gate .result) (c .args .fanin ∷ []) (c .single-in-Gate .ensures) (c .args .list .now) (c .copy-from-slice .last .self) _ _ (c .copy-from-slice .ensures .after) refl
           ∙ sym (ap (ways (setsOf (c .args .list .now)) (c .args .fanin)) here);
     }
