@@ -7,3 +7,4 @@ pub mod Agree
 pub mod Buffers
 pub mod Bytes
 pub mod Settle
+pub mod Names
