@@ -7,3 +7,6 @@ pub mod Sound
 pub mod Lawful
 pub mod Grow
 pub mod ReachLaws
+pub mod Lists
+pub mod ValueLaws
+pub mod InputLaws

@@ -1,0 +1,10 @@
+pub mod Packed
+pub mod Tables
+pub mod Pins
+pub mod LeafRows
+pub mod Laws
+pub mod Agree
+pub mod Buffers
+pub mod Bytes
+pub mod Settle
+pub mod Names

@@ -1,0 +1,48 @@
+-- The laws of a cover.
+use Prim.Native.Nat.{ℕ}
+use mathlib.Core.Bool.{Bool, true, not, _&&_, _||_}
+use mathlib.Core.List.{List, [], _∷_, map}
+use lib.Dec.{eqb, ltb, leb}
+use Rattle.drawing.specs.Sets.{every, mem, rises}
+use Rattle.drawing.specs.Drawing.{nodeOf, mostNodes}
+use Rattle.cells.specs.declared.cell.Cell.{Cell}
+use Rattle.cells.specs.Limits.{mostLeaves}
+use Rattle.cells.specs.Truth.{filled}
+use Rattle.cells.specs.Netlist.{Netlist, leavesOf, plain, rootName}
+
+-- each of these nodes has a name
+abbrev pub known : List ℕ → List ℕ → Bool
+known names nodes = every (λ n. mem (plain n) names) nodes
+
+-- a cell has at most five leaves, which rise and are known before it; its root is no input, and its table is filled
+abbrev pub cellLawful : List ℕ → List ℕ → Cell → Bool
+cellLawful inputs names c =
+    leb (c .count) mostLeaves && not (mem (c .root) inputs) && rises 0 (leavesOf c) && known names (leavesOf c)
+    && filled (c .count) (c .table)
+
+-- the names that are known after the cells, the newest first
+abbrev pub namesAfter : List ℕ → List Cell → List ℕ
+namesAfter names [] = names
+namesAfter names (c ∷ cs) = namesAfter (rootName c ∷ names) cs
+
+-- each leaf is an input or an earlier root
+abbrev pub cellsLawful : List ℕ → List ℕ → List Cell → Bool
+cellsLawful inputs names [] = true
+cellsLawful inputs names (c ∷ cs) = cellLawful inputs names c && cellsLawful inputs (rootName c ∷ names) cs
+
+-- an output names node 0, an input or a root; numbers end at 255
+abbrev pub outputLawful : List ℕ → ℕ → Bool
+outputLawful names l = ltb (nodeOf l) mostNodes && (eqb (nodeOf l) 0 || mem (plain (nodeOf l)) names)
+
+abbrev pub rootsOf : Netlist → List ℕ
+rootsOf n = map (λ c. c .root) (n .cells)
+
+-- all names of a netlist
+abbrev pub namesOf : Netlist → List ℕ
+namesOf n = namesAfter (map plain (n .inputs)) (n .cells)
+
+-- inputs rise and roots rise, both from 1 or more; each cell and each output is lawful
+unfoldable pub lawfulCover : Netlist → Bool
+lawfulCover n =
+    rises 0 (n .inputs) && rises 0 (rootsOf n) && cellsLawful (n .inputs) (map plain (n .inputs)) (n .cells)
+    && every (outputLawful (namesOf n)) (n .outputs)

@@ -1,0 +1,23 @@
+//! A lookup cell.
+
+ghost use Rattle.cells.specs.Netlist.{leavesOf};
+ghost use mathlib.Core.Path.{_≡_};
+
+/// The root, the leaves by rising number (`count` of them, then zeros), and the truth table.
+#[derive(Clone, Copy)]
+pub struct Cell {
+    pub root: u8,
+    pub count: u8,
+    pub leaves: [u8; 5],
+    pub table: u32,
+}
+
+impl Cell {
+    /// The leaves, by rising number.
+    pub fn leaves(&self) -> &[u8]
+        ensures { λ r. ⌜ now r ≡ leavesOf (now (self .entry)) ⌝ }
+    {
+        let count = (self.count as usize).min(self.leaves.len());
+        &self.leaves[0..count]
+    }
+}
