@@ -4,3 +4,6 @@ pub mod Accepted
 pub mod Written
 pub mod Faults
 pub mod Examples
+pub mod Steps
+pub mod Ends
+pub mod Bytes

@@ -1,7 +1,13 @@
 //! The text of a drawing, in a subset of ASCII AIGER: reading and writing it.
 
+mod draft;
 mod line;
+mod page;
 mod reader;
+mod writer;
+
+pub use reader::read;
+pub use writer::write;
 
 ghost use Rattle.aiger.specs.Laws.{Examples, Only-texts, Places-faults, Reads-back};
 
