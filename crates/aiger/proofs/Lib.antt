@@ -7,3 +7,4 @@ pub mod Examples
 pub mod Steps
 pub mod Ends
 pub mod Bytes
+pub mod Pages

@@ -99,6 +99,10 @@ rows-push f n [] x m e = append-nil (f n x) ∙ ap (λ k. f k x) (let h : n ≡ 
 rows-push f n (y ∷ ys) x m e =
     ap (λ l. f n y ++ l) (rows-push f (suc n) ys x m (omega arith)) ∙ sym (append-assoc (f n y) (rows f (suc n) ys) (f m x))
 
-pub rows-more : (f : ℕ → Node → List (List ℕ)) (ns : List Node) (k : ℕ) → k < length ns → rows f 0 (take (k + 1) ns) ≡ rows f 0 (take k ns) ++ f k (getD ns k Constant)
-rows-more f ns k lt =
-    ap (rows f 0) (take-more ns k Constant lt) ∙ rows-push f 0 (take k ns) (getD ns k Constant) k (omega (arith, length-take-le k ns (omega arith)))
+pub rows-more : (f : ℕ → Node → List (List ℕ)) (ns : List Node) (k : ℕ) (d : Node) → k < length ns → rows f 0 (take (k + 1) ns) ≡ rows f 0 (take k ns) ++ f k (getD ns k d)
+rows-more f ns k d lt =
+    ap (rows f 0) (take-more ns k d lt) ∙ rows-push f 0 (take k ns) (getD ns k d) k (omega (arith, length-take-le k ns (omega arith)))
+
+pub count-more : (f : ℕ → Node → List (List ℕ)) (ns : List Node) (k : ℕ) (d : Node) (m c : ℕ) → k < length ns → m ≡ length (rows f 0 (take k ns)) → c ≡ length (f k (getD ns k d)) → m + c ≡ length (rows f 0 (take (k + 1) ns))
+count-more f ns k d m c lt e g =
+    omega (arith, ap length (rows-more f ns k d lt), length-append (rows f 0 (take k ns)) (f k (getD ns k d)))
