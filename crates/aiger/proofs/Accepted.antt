@@ -360,14 +360,14 @@ accepted t d e =
     let head : heading d ≡ ns = (λ i. pm i ∷ ins i ∷ sym zeroL i ∷ many i ∷ gates i ∷ []) ∙ sym (five ns (back .count)) in
     let rest : p .rest ≡ joined lineOf (body d) = ap (λ l. joined lineOf l ++ p .rest) (sym none) ∙ end .bytes in
     let lf : Sane (end .last) → d ≡ drawn (end .last) → lawful d ≡ true = λ s is.
-        let first : getD (d .nodes) 0 Constant ≡ Constant = ap (λ x. getD (x .nodes) 0 Constant) is ∙ s .first in
-        let stand = all-stand (d .nodes) first (omega arith) (λ j. subst (λ x. Sits j (getD (x .nodes) j Constant)) (sym is) (s .sits j)) in
-        says-lawful (d .nodes) (d .outputs) record {
-          nodes-sound = sound-by (d .nodes) (omega arith) (sound-from (d .nodes) first stand);
-          outputs-named = λ o m. subst (λ x. nodeOf o < length (x .nodes)) (sym is) (s .named o (subst (λ x. In o (x .outputs)) is m));
-          nodes-few = omega arith;
-          outputs-few = omega arith;
-        } in
+    let first : getD (d .nodes) 0 Constant ≡ Constant = ap (λ x. getD (x .nodes) 0 Constant) is ∙ s .first in
+    let stand = all-stand (d .nodes) first (omega arith) (λ j. subst (λ x. Sits j (getD (x .nodes) j Constant)) (sym is) (s .sits j)) in
+    says-lawful (d .nodes) (d .outputs) record {
+      nodes-sound = sound-by (d .nodes) (omega arith) (sound-from (d .nodes) first stand);
+      outputs-named = λ o m. subst (λ x. nodeOf o < length (x .nodes)) (sym is) (s .named o (subst (λ x. In o (x .outputs)) is m));
+      nodes-few = omega arith;
+      outputs-few = omega arith;
+    } in
     record {
       written = w .2 ∙ ap (λ l. word ++ l) (back .bytes ∙ (λ i. lineOf (sym head i) ++ rest i));
       is-lawful = lf (end .sane) (end .is);

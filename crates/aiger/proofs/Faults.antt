@@ -63,7 +63,7 @@ spots-more b bs pos (broken p) ne h = (h .0, up-more b bs pos p 0 (h .0) ne (h .
 spots-more b bs pos (whole ns p rest) ne h = up-more b bs pos p 1 rest ne h
 
 spots-turn : (more : ℕ) (done : List ℕ) (number : Option ℕ) (pos b : ℕ) (bs : List ℕ) (a : Act) → Says more number b a
-  → ((more′ : ℕ) (done′ : List ℕ) (number′ : Option ℕ) → Spots bs (pos + 1) (scan more′ done′ number′ (pos + 1) bs)) → Spots (b ∷ bs) pos (turn more done pos bs a)
+    → ((more′ : ℕ) (done′ : List ℕ) (number′ : Option ℕ) → Spots bs (pos + 1) (scan more′ done′ number′ (pos + 1) bs)) → Spots (b ∷ bs) pos (turn more done pos bs a)
 spots-turn more done number pos b bs (Digit v) s ih = spots-more b bs pos _ (λ e. omega (arith, s .2)) (ih more done (Some v))
 spots-turn more done number pos b bs (Space v) s ih = spots-more b bs pos _ (λ e. omega (arith, s .1)) (ih (more - 1) (done ++ v ∷ []) None)
 spots-turn more done number pos b bs (Newline v) s ih =
@@ -83,10 +83,10 @@ pub record Spot (bs : List ℕ) (pos ln : ℕ) (f : Fault) : Type 0 where
   pub up : Up bs pos (f .byte) lines rest
   pub line : f .line ≡ ln + lines
 
-ok-err : {A : Type 0} {f : Fault} {d : Drawing} → _≡_ {A = Outcome} (Ok d) (Err f) → A
+pub ok-err : {A : Type 0} {f : Fault} {d : Drawing} → _≡_ {A = Outcome} (Ok d) (Err f) → A
 ok-err e = let z : _≡_ {A = ℕ} 0 1 = cc in absurd (omega arith)
 
-same-fault : (f g : Fault) → _≡_ {A = Outcome} (Err f) (Err g) → f ≡ g
+pub same-fault : (f g : Fault) → _≡_ {A = Outcome} (Err f) (Err g) → f ≡ g
 same-fault f g e = cc
 
 here : (bs : List ℕ) (pos ln : ℕ) (f : Fault) → f .byte ≡ pos → f .line ≡ ln → Spot bs pos ln f
@@ -95,8 +95,8 @@ here bs pos ln f e l =
 
 -- a line that is refused, or passed on
 line-spot : (s : Scan) (bs : List ℕ) (pos ln : ℕ) (ok : List ℕ → Bool) (g f : Fault) (go : List ℕ → ℕ → List ℕ → Outcome)
-  → Spots bs pos s → after s ln ok (Err g) go ≡ Err f → ((ns : List ℕ) (next : ℕ) (rest : List ℕ) → go ns next rest ≡ Err f → Spot rest next (ln + 1) f)
-  → Spot bs pos ln f ⊎ (f ≡ g)
+    → Spots bs pos s → after s ln ok (Err g) go ≡ Err f → ((ns : List ℕ) (next : ℕ) (rest : List ℕ) → go ns next rest ≡ Err f → Spot rest next (ln + 1) f)
+    → Spot bs pos ln f ⊎ (f ≡ g)
 line-spot (broken p) bs pos ln ok g f go sp e ih =
     let h = same-fault _ _ e in
     inl (record {
@@ -124,7 +124,7 @@ lines-spot (p ∷ ps) sh ln pos bs f e =
     (line-spot (scan (width p) [] None pos bs) bs pos ln (fits p sh) _ f _ (scan-spots (width p) [] None pos bs) e (λ ns next rest h. lines-spot ps (add p sh ns) (ln + 1) next rest f h))
 
 word-by : (w b : ℕ) → (w ≡ 10 → ⊥) → (pos : ℕ) (bs : List ℕ) (f : Fault) (x : Outcome) → (x ≡ Err f → Spot bs (pos + 1) 0 f ⊎ (f ≡ record { rule = Figures; byte = 0; line = 0 })) → (t : Bool) → eqb b w ≡ t → cond t x (fault Pattern pos 0) ≡ Err f
-  → Spot (b ∷ bs) pos 0 f ⊎ (f ≡ record { rule = Figures; byte = 0; line = 0 })
+    → Spot (b ∷ bs) pos 0 f ⊎ (f ≡ record { rule = Figures; byte = 0; line = 0 })
 word-by w b ne pos bs f x ih true t e =
     let same = eqb-true b w t in
     ⊎-elim
@@ -147,11 +147,11 @@ unfolding read
 faults-placed t f e =
     ⊎-elim
     (λ s.
-        let u = s .up in
-        let k : f .byte ≡ length (u .pre) = omega (arith, u .byte) in
-        record {
-          within = omega (arith, ap length (u .split), length-append (u .pre) (s .rest));
-          line = (λ i. ends (take (k i) (u .split i))) ∙ ap ends (take-at (u .pre) (s .rest) (length (u .pre)) refl) ∙ omega (arith, u .line, s .line);
-        })
+    let u = s .up in
+    let k : f .byte ≡ length (u .pre) = omega (arith, u .byte) in
+    record {
+      within = omega (arith, ap length (u .split), length-append (u .pre) (s .rest));
+      line = (λ i. ends (take (k i) (u .split i))) ∙ ap ends (take-at (u .pre) (s .rest) (length (u .pre)) refl) ∙ omega (arith, u .line, s .line);
+    })
     (λ g. record { within = omega (arith, ap (λ x. x .byte) g); line = ap (λ x. ends (take (x .byte) t)) g ∙ sym (ap (λ x. x .line) g) })
     (word-spot word ((λ e. omega arith), ((λ e. omega arith), ((λ e. omega arith), ((λ e. omega arith), tt)))) 0 t f e)

@@ -3,6 +3,7 @@ pub mod Rows
 pub mod Accepted
 pub mod Written
 pub mod Faults
+pub mod Beginnings
 pub mod Examples
 pub mod Steps
 pub mod Ends

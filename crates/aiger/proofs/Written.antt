@@ -173,8 +173,8 @@ by-nodes : (nodes : List Node) (outputs : List ℕ) → Lawfully nodes outputs �
 by-nodes [] outputs h = absurd (omega (arith, sound-some [] (h .nodes-sound)))
 by-nodes (Constant ∷ suf) outputs h =
     let stand : (j m : ℕ) → m ≡ 1 + j → j < length suf → Stands m (getD suf j Constant) = λ j m e lt.
-        let same : m ≡ suc j = omega arith in
-        subst (λ k. Stands k (getD suf j Constant)) (sym same) (sound-stands (suc j) (getD suf j Constant) (omega arith) (sound-at (Constant ∷ suf) (suc j) (h .nodes-sound) (omega arith))) in
+    let same : m ≡ suc j = omega arith in
+    subst (λ k. Stands k (getD suf j Constant)) (sym same) (sound-stands (suc j) (getD suf j Constant) (omega arith) (sound-at (Constant ∷ suf) (suc j) (h .nodes-sound) (omega arith))) in
     read-text suf outputs (all-stand 1 suf stand) (omega (arith, h .nodes-few)) (all-in (λ l. nodeOf l < suc (length suf)) outputs (h .outputs-named)) (h .outputs-few)
 by-nodes (Input ∷ suf) outputs h = absurd (both-ways false refl (sound-at (Input ∷ suf) 0 (h .nodes-sound) (omega arith)))
 by-nodes (Gate p ∷ suf) outputs h = absurd (both-ways false refl (sound-at (Gate p ∷ suf) 0 (h .nodes-sound) (omega arith)))

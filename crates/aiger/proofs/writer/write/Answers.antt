@@ -20,9 +20,10 @@ put-outputs-requires c κs =
 
 pub put-gates-requires : need.put-gates-requires
 put-gates-requires c κs =
-    let h = lent _ _ _ _ (c .args .table .now .law) (c .nodes-nodes .ensures) (c .outputs-outputs .ensures) in
-    (omega (arith, c .new-page .ensures .1, c .put-header .ensures .room, c .put-inputs .ensures .room, c .put-outputs .ensures .room),
-    (h .nodes-few, short-gates _ (h .nodes-sound) (h .nodes-few)))
+    let h = lent _ _ _ _ (c .args .table .now .law) (c .nodes-nodes .ensures) (c .outputs-outputs .ensures) in (
+      omega (arith, c .new-page .ensures .1, c .put-header .ensures .room, c .put-inputs .ensures .room, c .put-outputs .ensures .room),
+      (h .nodes-few, short-gates _ (h .nodes-sound) (h .nodes-few)),
+    )
 
 pub returns : need.returns
 returns c =
