@@ -2,7 +2,7 @@
 """A separate reader of the texts that crates/aiger reads, written from the rules of the format by other means:
 it matches each line with a regular expression, and finds where a broken line breaks by trying its beginnings.
 
-    aiger_oracle.py            check its own table of texts against the table in crates/aiger_tests/src/lib.rt
+    aiger_oracle.py            check its own table of texts against the table in crates/aiger_tests/src/texts.rt
     aiger_oracle.py FILE..     say of each file: "ok I O A", or "fault NUMBER BYTE LINE"
 """
 import re
@@ -90,7 +90,7 @@ def shown(result):
 
 def table():
     """The rows of the tests' table that stand there with their expected answers."""
-    source = open("crates/aiger_tests/src/lib.rt", encoding="utf-8").read()
+    source = open("crates/aiger_tests/src/texts.rt", encoding="utf-8").read()
     row = r'(accepted|refused)\(\s*b"((?:[^"\\]|\\.)*)"(?:,\s*(\d+),\s*(\d+),\s*(\d+))?,?\s*\)'
     for kind, text, *numbers in re.findall(row, source):
         text = text.encode("latin-1").decode("unicode_escape")
