@@ -1,0 +1,11 @@
+pub mod Lines
+pub mod Rows
+pub mod Accepted
+pub mod Written
+pub mod Faults
+pub mod Beginnings
+pub mod Examples
+pub mod Steps
+pub mod Ends
+pub mod Bytes
+pub mod Pages

@@ -1,0 +1,5 @@
+pub mod Text
+pub mod Reads
+pub mod Laws
+pub mod States
+pub mod Pages

@@ -1,0 +1,4 @@
+//! Tests of reading and writing drawings as text.
+
+#[cfg(test)]
+mod texts;
