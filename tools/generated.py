@@ -1,5 +1,5 @@
 """Generated drawings and faulty texts, the same for the same seed."""
-from reference import INPUT, CONSTANT, Drawing, Refused, answer, write
+from reference import CONSTANT, INPUT, Drawing, answer, write
 
 
 def drawing_of(rng, inputs, gates, outputs=None):
