@@ -1,7 +1,7 @@
 #!/usr/bin/env python3
 """A slow, plain model of the whole road from a drawing's text to its cell list.
 
-It is written from docs/ alone and shares nothing with the program, so that the answers of the two can be
+It follows the rules of docs/ and shares nothing with the program, so that the answers of the two can be
 held against each other. It prefers the definition to speed: use it on small drawings.
 
     tools/reference.py < examples/and3.aag              the cell list, as lutmap prints it
