@@ -3,3 +3,4 @@ pub mod Optimal
 pub mod OwnCover
 pub mod Needed
 pub mod Marking
+pub mod Choosing

@@ -25,11 +25,13 @@ abbrev pub smaller : List ℕ → List ℕ → Bool
 smaller t s = ltb (length t) (length s) || (eqb (length t) (length s) && lexi t s)
 
 module _ {A : Type 0} (F : Delay A) where
-  -- t is to be taken rather than s: its cell arrives earlier, or as early and t is smaller
+  -- t, whose cell arrives at x, is to be taken rather than s, whose cell arrives at y: it is earlier, or as early and t is smaller
+  abbrev pub beats : A → List ℕ → A → List ℕ → Bool
+  beats x t y s = not (F .notLater y x) || (F .notLater x y && smaller t s)
+
+  -- the same, by the arrivals of the nodes
   abbrev pub rather : List A → List ℕ → List ℕ → Bool
-  rather table t s =
-      not (F .notLater (cellArrival F table s) (cellArrival F table t))
-      || (F .notLater (cellArrival F table t) (cellArrival F table s) && smaller t s)
+  rather table t s = beats (cellArrival F table t) t (cellArrival F table s) s
 
   -- the cut taken, s or one of those behind it
   abbrev pub takenFrom : List A → List ℕ → List (List ℕ) → List ℕ
