@@ -4,3 +4,4 @@ pub mod OwnCover
 pub mod Needed
 pub mod Marking
 pub mod Choosing
+pub mod Filling

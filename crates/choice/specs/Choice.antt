@@ -1,5 +1,6 @@
 -- How map chooses: the cut that each gate takes, the best arrivals, and the cells.
-use Prim.Native.Nat.{ℕ}
+use Prim.Native.Nat.{ℕ, _<_}
+use mathlib.Core.Path.{_≡_}
 use mathlib.Core.Bool.{Bool, true, false, cond, not, _&&_, _||_}
 use mathlib.Core.List.{List, [], _∷_}
 use lib.Dec.{eqb, ltb}
@@ -70,3 +71,14 @@ module _ {A : Type 0} (F : Delay A) where
   -- the arrival table: the best arrival, or the start where a gate is not needed
   abbrev pub tabled : List Node → List ℕ → ℕ → ℕ → A
   tabled nodes outs k v = let b = getD (best nodes k) v (F .start) in cond (isGate (at nodes v) && not (needed nodes outs v)) (F .start) b
+
+  -- the table is right below v
+  abbrev pub Filled : List Node → List ℕ → ℕ → ℕ → List A → Type 0
+  Filled nodes outs k v table = (u : ℕ) → u < v → getD table u (F .start) ≡ tabled nodes outs k u
+
+  -- the cut that a node takes from its list, if it is a needed gate, and its arrival then
+  abbrev pub cutBy : List A → List (List ℕ) → Bool → List ℕ
+  cutBy table sets here = let s = taken table sets in cond here s []
+
+  abbrev pub arrivalBy : List A → List (List ℕ) → Bool → A
+  arrivalBy table sets here = let x = cellArrival F table (taken table sets) in cond here x (F .start)

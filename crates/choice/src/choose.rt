@@ -4,11 +4,11 @@ use cuts::cut::Cut;
 use family::Family;
 use family::fold::cell_arrival;
 ghost use Prim.Native.Nat.{_<_};
-ghost use Rattle.choice.specs.Choice.{beats, lexi, smaller, taken};
+ghost use Rattle.choice.specs.Choice.{arrivalBy, beats, cutBy, lexi, smaller, taken};
 ghost use Rattle.cuts.specs.Leaves.{leavesOf, setsOf};
 ghost use Rattle.drawing.specs.Sets.{below, every};
 ghost use Rattle.family.specs.Family.{cellArrival};
-ghost use lib.ListN.{length};
+ghost use lib.ListN.{length, set};
 ghost use mathlib.Core.Bool.{true};
 ghost use mathlib.Core.Path.{_≡_};
 
@@ -67,4 +67,28 @@ pub fn choose<F: Family>(family: &F, table: &[F::Arrival], list: &[Cut]) -> (Cut
         }
     }
     (best, arrival)
+}
+
+/// Writes the arrival of node `v` into the table, by the arrivals below it, and answers the cut that it takes: from its list
+/// if it is a needed gate, and else the start and no leaves.
+pub fn arrive<F: Family>(
+    family: &F,
+    needed: bool,
+    list: &[Cut],
+    v: usize,
+    table: &mut [F::Arrival],
+) -> Cut
+    requires place { ⌜ v < length (now table) ⌝ }
+    requires some { ⌜ (needed ≡ true → 0 < length (now list)) ⌝ }
+    requires within { ⌜ (needed ≡ true → every (below (length (now table))) (setsOf (now list)) ≡ true) ⌝ }
+    ensures cut { λ r. ⌜ leavesOf r ≡ cutBy (delay (now (family .entry))) (now (table .entry)) (setsOf (now (list .entry))) needed ⌝ }
+    ensures arrival { λ _. ⌜ now (table .exit) ≡ set (now (table .entry)) v (arrivalBy (delay (now (family .entry))) (now (table .entry)) (setsOf (now (list .entry))) needed) ⌝ }
+{
+    if !needed {
+        table[v] = family.start();
+        return Cut::empty();
+    }
+    let (cut, arrival) = choose(family, table, list);
+    table[v] = arrival;
+    cut
 }
