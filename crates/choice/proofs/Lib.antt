@@ -3,3 +3,5 @@ pub mod Optimal
 pub mod OwnCover
 pub mod Needed
 pub mod Marking
+pub mod Choosing
+pub mod Filling

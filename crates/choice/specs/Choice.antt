@@ -1,5 +1,6 @@
 -- How map chooses: the cut that each gate takes, the best arrivals, and the cells.
-use Prim.Native.Nat.{ℕ}
+use Prim.Native.Nat.{ℕ, _<_}
+use mathlib.Core.Path.{_≡_}
 use mathlib.Core.Bool.{Bool, true, false, cond, not, _&&_, _||_}
 use mathlib.Core.List.{List, [], _∷_}
 use lib.Dec.{eqb, ltb}
@@ -25,11 +26,13 @@ abbrev pub smaller : List ℕ → List ℕ → Bool
 smaller t s = ltb (length t) (length s) || (eqb (length t) (length s) && lexi t s)
 
 module _ {A : Type 0} (F : Delay A) where
-  -- t is to be taken rather than s: its cell arrives earlier, or as early and t is smaller
+  -- t, whose cell arrives at x, is to be taken rather than s, whose cell arrives at y: it is earlier, or as early and t is smaller
+  abbrev pub beats : A → List ℕ → A → List ℕ → Bool
+  beats x t y s = not (F .notLater y x) || (F .notLater x y && smaller t s)
+
+  -- the same, by the arrivals of the nodes
   abbrev pub rather : List A → List ℕ → List ℕ → Bool
-  rather table t s =
-      not (F .notLater (cellArrival F table s) (cellArrival F table t))
-      || (F .notLater (cellArrival F table t) (cellArrival F table s) && smaller t s)
+  rather table t s = beats (cellArrival F table t) t (cellArrival F table s) s
 
   -- the cut taken, s or one of those behind it
   abbrev pub takenFrom : List A → List ℕ → List (List ℕ) → List ℕ
@@ -68,3 +71,14 @@ module _ {A : Type 0} (F : Delay A) where
   -- the arrival table: the best arrival, or the start where a gate is not needed
   abbrev pub tabled : List Node → List ℕ → ℕ → ℕ → A
   tabled nodes outs k v = let b = getD (best nodes k) v (F .start) in cond (isGate (at nodes v) && not (needed nodes outs v)) (F .start) b
+
+  -- the table is right below v
+  abbrev pub Filled : List Node → List ℕ → ℕ → ℕ → List A → Type 0
+  Filled nodes outs k v table = (u : ℕ) → u < v → getD table u (F .start) ≡ tabled nodes outs k u
+
+  -- the cut that a node takes from its list, if it is a needed gate, and its arrival then
+  abbrev pub cutBy : List A → List (List ℕ) → Bool → List ℕ
+  cutBy table sets here = let s = taken table sets in cond here s []
+
+  abbrev pub arrivalBy : List A → List (List ℕ) → Bool → A
+  arrivalBy table sets here = let x = cellArrival F table (taken table sets) in cond here x (F .start)

@@ -1,5 +1,6 @@
 //! How map chooses among cuts, and which nodes it has to look at.
 
+pub mod choose;
 pub mod marks;
 
 use family::Family;
