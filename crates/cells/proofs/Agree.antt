@@ -26,7 +26,7 @@ use Rattle.drawing.proofs.InputLaws.{input-at}
 use Rattle.cuts.specs.Cuts.{closes, cut, closesFanins}
 use Rattle.cuts.proofs.Closing.{Closed, zeroth, member, through, closes-range, closes-ways, closes-by}
 use Rattle.cells.specs.declared.cell.Cell.{Cell}
-use Rattle.cells.specs.Limits.{mostLeaves}
+use Rattle.drawing.specs.Drawing.{mostLeaves}
 use Rattle.cells.specs.Truth.{bit, leafBits, unset, coning, cone, tableOf}
 use Rattle.cells.specs.Netlist.{Netlist, leavesOf, plain, rootName, rowOf, cellValue, look, after, settled, outputValue, answers}
 use Rattle.cells.specs.Laws.{known, cellLawful, namesAfter, cellsLawful, outputLawful, namesOf, lawfulCover}

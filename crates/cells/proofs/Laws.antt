@@ -15,7 +15,7 @@ use Rattle.drawing.specs.Drawing.{nodeOf, mostNodes}
 use Rattle.drawing.proofs.Members.{every-in, in-every, in-append}
 use Rattle.drawing.proofs.Lists.{every-push, rises-push}
 use Rattle.cells.specs.declared.cell.Cell.{Cell}
-use Rattle.cells.specs.Limits.{mostLeaves}
+use Rattle.drawing.specs.Drawing.{mostLeaves}
 use Rattle.cells.specs.Truth.{filled}
 use Rattle.cells.specs.Netlist.{Netlist, netlist, emptyNetlist, withInput, withCell, withOutput, leavesOf, cellOf, plain, rootName}
 use Rattle.cells.specs.Laws.{known, cellLawful, namesAfter, cellsLawful, outputLawful, rootsOf, namesOf, lawfulCover}

@@ -10,7 +10,8 @@ use lib.Pow.{pow-mono}
 use Rattle.std.proofs.shelf.Bits.{shl-whole, or-shifted}
 use Rattle.std.proofs.shelf.Lists.{drop-more, drop-all, length-drop, length-take, getD-take}
 use Rattle.cells.specs.declared.cell.Cell.{Cell}
-use Rattle.cells.specs.Limits.{mostLeaves, tableBits}
+use Rattle.cells.specs.Limits.{tableBits}
+use Rattle.drawing.specs.Drawing.{mostLeaves}
 use Rattle.cells.specs.Netlist.{leavesOf, plain, rowOf}
 use Rattle.cells.proofs.Packed.{pow-one}
 

@@ -6,7 +6,7 @@ use lib.Dec.{eqb, ltb, leb}
 use Rattle.drawing.specs.Sets.{every, mem, rises}
 use Rattle.drawing.specs.Drawing.{nodeOf, mostNodes}
 use Rattle.cells.specs.declared.cell.Cell.{Cell}
-use Rattle.cells.specs.Limits.{mostLeaves}
+use Rattle.drawing.specs.Drawing.{mostLeaves}
 use Rattle.cells.specs.Truth.{filled}
 use Rattle.cells.specs.Netlist.{Netlist, leavesOf, plain, rootName}
 

@@ -1,10 +1,6 @@
 -- How much a cell and a cover hold.
 use Prim.Native.Nat.{ℕ, _-_, _*_, _^_}
-use Rattle.drawing.specs.Drawing.{mostNodes}
-
--- the most leaves that a cell has
-abbrev pub mostLeaves : ℕ
-mostLeaves = 5
+use Rattle.drawing.specs.Drawing.{mostNodes, mostLeaves}
 
 -- the bits of a cell's table: one for each row of values of the most leaves
 abbrev pub tableBits : ℕ

@@ -6,7 +6,7 @@ use Rattle.drawing.specs.declared.node.Node.{Node}
 use Rattle.drawing.specs.Drawing.{nodeOf}
 use Rattle.drawing.specs.Values.{turned, lookup, bound}
 use Rattle.cells.specs.declared.cell.Cell.{Cell}
-use Rattle.cells.specs.Limits.{mostLeaves}
+use Rattle.drawing.specs.Drawing.{mostLeaves}
 use Rattle.cells.specs.Truth.{bit, tableOf}
 
 -- a cell's leaves, by rising number

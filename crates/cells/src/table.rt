@@ -3,7 +3,7 @@
 use crate::cell::Cell;
 use drawing::node::Node;
 ghost use Prim.Native.Nat.{ℕ, _^_, _/_, _<_, _≤_};
-ghost use Rattle.cells.specs.Limits.{mostLeaves};
+ghost use Rattle.drawing.specs.Drawing.{mostLeaves};
 ghost use Rattle.cells.specs.Netlist.{cellOf};
 ghost use Rattle.cells.specs.Truth.{bit, cone, leafBits, tableBit, tableOf, unset};
 ghost use Rattle.drawing.specs.Drawing.{fanins, sound};

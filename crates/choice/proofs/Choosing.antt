@@ -15,7 +15,8 @@ use Rattle.drawing.proofs.Members.{every-at}
 use Rattle.drawing.proofs.Scans.{every-map}
 use Rattle.cuts.specs.declared.cut.Cut.{Cut}
 use Rattle.cuts.specs.Leaves.{leavesOf}
-use Rattle.family.specs.Family.{Delay, cellArrival, mostLeaves}
+use Rattle.family.specs.Family.{Delay, cellArrival}
+use Rattle.drawing.specs.Drawing.{mostLeaves}
 use Rattle.choice.specs.Choice.{lexi, beats, rather, takenFrom, taken}
 
 -- two lists from place i on

@@ -78,9 +78,9 @@ module _ (j : Job) where
 pub held-set : (held : List Bool) (v u : ℕ) → v < length held → getD (set held v true) u false ≡ (getD held u false || eqb u v)
 held-set held v u l =
     ⊎-elim
-      (λ (e : u ≡ v). subst (λ z. getD (set held v true) z false ≡ (getD held z false || eqb z v)) (sym e) (getD-set-same held v true false l ∙ sym (or-right (getD held v false) (eqb v v) (eq-eqb v v refl))))
-      (λ (e : u ≢ v). getD-set-other held v u true false e ∙ or-none (getD held u false) (eqb u v) (ne-eqb u v e))
-      (cases-eq u v)
+    (λ (e : u ≡ v). subst (λ z. getD (set held v true) z false ≡ (getD held z false || eqb z v)) (sym e) (getD-set-same held v true false l ∙ sym (or-right (getD held v false) (eqb v v) (eq-eqb v v refl))))
+    (λ (e : u ≢ v). getD-set-other held v u true false e ∙ or-none (getD held u false) (eqb u v) (ne-eqb u v e))
+    (cases-eq u v)
   where
     or-none : (a b : Bool) → b ≡ false → a ≡ (a || b)
     or-none true b h = refl
@@ -97,21 +97,21 @@ module _ (j : Job) (k : Kept) (v : ℕ) (list : List Cut) (gate : isGate (at (no
   pub keep-listed : (u : ℕ) → getD (heldOf k) u false ≡ true → (s : List ℕ) → elem s (setsOf (rowOf k u)) ≡ elem s (leastCuts (nodesOf j) (j .width) u)
   keep-listed u h s =
       ⊎-elim
-        (λ (e : u ≡ v). subst (λ z. elem s (setsOf (rowOf k z)) ≡ elem s (leastCuts (nodesOf j) (j .width) z)) (sym e) (ap (λ z. elem s (setsOf z)) row ∙ whole .0 s))
-        (λ (e : u ≢ v). ap (λ z. elem s (setsOf z)) (others u e) ∙ j .listed u (old u e h) s)
-        (cases-eq u v)
+      (λ (e : u ≡ v). subst (λ z. elem s (setsOf (rowOf k z)) ≡ elem s (leastCuts (nodesOf j) (j .width) z)) (sym e) (ap (λ z. elem s (setsOf z)) row ∙ whole .0 s))
+      (λ (e : u ≢ v). ap (λ z. elem s (setsOf z)) (others u e) ∙ j .listed u (old u e h) s)
+      (cases-eq u v)
 
   pub keep-counted : (u : ℕ) → getD (heldOf k) u false ≡ true → length (rowOf k u) ≡ length (leastCuts (nodesOf j) (j .width) u)
   keep-counted u h =
       ⊎-elim
-        (λ (e : u ≡ v). subst (λ z. length (rowOf k z) ≡ length (leastCuts (nodesOf j) (j .width) z)) (sym e) (ap length row ∙ whole .1))
-        (λ (e : u ≢ v). ap length (others u e) ∙ j .counted u (old u e h))
-        (cases-eq u v)
+      (λ (e : u ≡ v). subst (λ z. length (rowOf k z) ≡ length (leastCuts (nodesOf j) (j .width) z)) (sym e) (ap length row ∙ whole .1))
+      (λ (e : u ≢ v). ap length (others u e) ∙ j .counted u (old u e h))
+      (cases-eq u v)
 
 -- a list that is kept already
 pub kept-again : (held : List Bool) (v : ℕ) → getD held v false ≡ true → (u : ℕ) → getD held u false ≡ (getD held u false || eqb u v)
 kept-again held v h u =
     ⊎-elim
-      (λ (e : u ≡ v). let k : getD held u false ≡ true = rw e h in rw k refl)
-      (λ (e : u ≢ v). let n = ne-eqb u v e in elim (getD held u false) as (λ b. b ≡ (b || eqb u v)) [ true ↦ refl | false ↦ sym n ])
-      (cases-eq u v)
+    (λ (e : u ≡ v). let k : getD held u false ≡ true = rw e h in rw k refl)
+    (λ (e : u ≢ v). let n = ne-eqb u v e in elim (getD held u false) as (λ b. b ≡ (b || eqb u v)) [ true ↦ refl | false ↦ sym n ])
+    (cases-eq u v)

@@ -55,10 +55,11 @@ kept-fits j v h = le-ltb _ _ (omega (arith, j .counted v h, row-short (j .lists)
 -- the steps
 
 pub not-needed : (i : Job) (v : ℕ) → neededIn (bookOf i) v ≡ false → MakingNeeded v i (Ok false) i
-not-needed i v n =
-    ( refl
-    , (λ u. still (getD (keptOf i) u false) (eqb u v) (neededIn (bookOf i) u) (λ e. subst (λ z. neededIn (bookOf i) z ≡ false) (sym (eqb-true u v e)) n))
-    , sym (and-left _ _ n) )
+not-needed i v n = (
+  refl,
+  (λ u. still (getD (keptOf i) u false) (eqb u v) (neededIn (bookOf i) u) (λ e. subst (λ z. neededIn (bookOf i) z ≡ false) (sym (eqb-true u v e)) n)),
+  sym (and-left _ _ n),
+)
   where
     still : (a b c : Bool) → (b ≡ true → c ≡ false) → a ≡ (a || (b && c))
     still true b c h = refl
@@ -66,10 +67,11 @@ not-needed i v n =
     still false false c h = refl
 
 pub made-needed : (i j : Job) (v : ℕ) (r : Result Bool Refusal) → neededIn (bookOf i) v ≡ true → Making v i r j → MakingNeeded v i r j
-made-needed i j v (Ok new) n (same, held, is) =
-    ( same
-    , (λ u. held u ∙ ap (λ z. getD (keptOf i) u false || z) (here u))
-    , is ∙ sym (ap (λ z. z && not (getD (keptOf i) v false)) n) )
+made-needed i j v (Ok new) n (same, held, is) = (
+  same,
+  (λ u. held u ∙ ap (λ z. getD (keptOf i) u false || z) (here u)),
+  is ∙ sym (ap (λ z. z && not (getD (keptOf i) v false)) n),
+)
   where
     here : (u : ℕ) → eqb u v ≡ (eqb u v && neededIn (bookOf i) u)
     here u = ⊎-elim
@@ -124,49 +126,50 @@ kept-here b held v = none (getD held v false) (ltb v v) (neededIn b v) (le-ltb v
     none a x c h = grind (arith, tells)
 
 pub progress-step : (i j k : Job) (v n m : ℕ) (new : Bool) → Progress i v n j → MakingNeeded v j (Ok new) k → m ≡ n + cond new 1 0 → Progress i (v + 1) m k
-progress-step i j k v n m new p (same, held, is) e = record
-  { same = same ∙ p .same
-  ; kept = λ u.
+progress-step i j k v n m new p (same, held, is) e = record {
+  same = same ∙ p .same;
+  kept = λ u.
       held u ∙ ap (λ z. z || (eqb u v && neededIn (bookOf j) u)) (p .kept u)
       ∙ ap (λ b. keptBelow (bookOf i) (keptOf i) v u || (eqb u v && neededIn b u)) (p .same)
-      ∙ kept-next (getD (keptOf i) u false) (neededIn (bookOf i) u) (ltb u v) (eqb u v) (ltb u (v + 1)) (below-next u v)
-  ; made =
+      ∙ kept-next (getD (keptOf i) u false) (neededIn (bookOf i) u) (ltb u v) (eqb u v) (ltb u (v + 1)) (below-next u v);
+  made =
       let test : new ≡ (neededIn (bookOf i) v && not (getD (keptOf i) v false)) =
-            is ∙ ap (λ b. neededIn b v && not (getD (keptOf j) v false)) (p .same)
-            ∙ ap (λ z. neededIn (bookOf i) v && not z) (p .kept v ∙ kept-here (bookOf i) (keptOf i) v) in
+      is ∙ ap (λ b. neededIn b v && not (getD (keptOf j) v false)) (p .same)
+      ∙ ap (λ z. neededIn (bookOf i) v && not z) (p .kept v ∙ kept-here (bookOf i) (keptOf i) v) in
       e ∙ ap (λ z. z + cond new 1 0) (p .made) ∙ ap (λ z. madeBelow (bookOf i) (keptOf i) v + cond z 1 0) test
-      ∙ sym (keep-count (λ u. neededIn (bookOf i) u && not (getD (keptOf i) u false)) v)
-  }
+      ∙ sym (keep-count (λ u. neededIn (bookOf i) u && not (getD (keptOf i) u false)) v);
+}
 
 -- what was gone through is not crowded
 fits-below : (i j : Job) (v n : ℕ) → Progress i v n j → (u : ℕ) → u < v → crowdedAt (bookOf i) u ≡ false
 fits-below i j v n p u l =
     ⊎-elim
-      (λ h. and-right _ _ (ap (λ b. tooMany b u) (sym (p .same)) ∙ kept-fits j u (progress-below i j v n p u l (ap (λ b. neededIn b u) (p .same) ∙ h))))
-      (λ h. and-left _ _ h)
-      (cases-bool (neededIn (bookOf i) u))
+    (λ h. and-right _ _ (ap (λ b. tooMany b u) (sym (p .same)) ∙ kept-fits j u (progress-below i j v n p u l (ap (λ b. neededIn b u) (p .same) ∙ h))))
+    (λ h. and-left _ _ h)
+    (cases-bool (neededIn (bookOf i) u))
 
 pub progress-crowded : (i j k : Job) (v n : ℕ) (e : Refusal) → Progress i v n j → MakingNeeded v j (Err e) k → (g : ℕ) × (e ≡ Crowded g) × Stopped i g k
-progress-crowded i j k v n e p (is, named, crowd) =
-    ( v
-    , named
-    , record
-        { same = ap bookOf is ∙ p .same
-        ; kept = λ u. ap (λ z. getD (keptOf z) u false) is ∙ p .kept u
-        ; crowd = ap (λ b. crowdedAt b v) (sym (p .same)) ∙ crowd
-        ; lowest = fits-below i j v n p
-        } )
+progress-crowded i j k v n e p (is, named, crowd) = (
+  v,
+  named,
+  record {
+    same = ap bookOf is ∙ p .same;
+    kept = λ u. ap (λ z. getD (keptOf z) u false) is ∙ p .kept u;
+    crowd = ap (λ b. crowdedAt b v) (sym (p .same)) ∙ crowd;
+    lowest = fits-below i j v n p;
+  },
+)
 
 pub progress-done : (i j : Job) (n : ℕ) → Progress i (length (bookOf i .drawing .nodes)) n j → Ready i n j
-progress-done i j n p = record
-  { same = p .same
-  ; kept = p .kept
-  ; made = p .made
-  ; fits = λ u. ⊎-elim
+progress-done i j n p = record {
+  same = p .same;
+  kept = p .kept;
+  made = p .made;
+  fits = λ u. ⊎-elim
       (λ (l : u < length (bookOf i .drawing .nodes)). fits-below i j _ n p u l)
       (λ (l : length (bookOf i .drawing .nodes) ≤ u). and-left _ _ (and-left _ _ (ap isGate (getD-past (bookOf i .drawing .nodes) u Constant l))))
-      (cases-lt u (length (bookOf i .drawing .nodes)))
-  }
+      (cases-lt u (length (bookOf i .drawing .nodes)));
+}
 
 -- no more lists are made than nodes are gone through
 pub made-small : (b : Book) (held : List Bool) (v : ℕ) → madeBelow b held v ≤ v

@@ -6,7 +6,7 @@ use crate::table::turn;
 use drawing::refusal::Refusal;
 ghost use Prim.Native.Nat.{ℕ, _<_, _≤_};
 ghost use Rattle.cells.specs.Evaluate.{Agrees, evaluateAnswer, evaluateWrites, firstAbove, Holds};
-ghost use Rattle.cells.specs.Limits.{mostLeaves};
+ghost use Rattle.drawing.specs.Drawing.{mostLeaves};
 ghost use Rattle.cells.specs.Netlist.{after, cellValue, outputValue, plain};
 ghost use Rattle.cells.specs.Netlists.{netlistOf};
 ghost use Rattle.drawing.specs.Drawing.{mostNodes, nodeOf};

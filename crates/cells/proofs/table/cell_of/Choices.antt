@@ -1,7 +1,7 @@
 use mathlib.Core.Path.{_≡_}
 use mathlib.Core.List.{_++_}
 use lib.ListN.{drop, replicate, take}
-use Rattle.cells.specs.Limits.{mostLeaves}
+use Rattle.drawing.specs.Drawing.{mostLeaves}
 use Rattle.cells.proofs.table.cell_of.Given as given
 
 -- the leaves so far, with zeros behind them

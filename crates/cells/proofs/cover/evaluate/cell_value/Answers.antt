@@ -3,7 +3,7 @@ use Prim.Native.Nat.{ℕ, _<_, _≤_, _/_, _^_}
 use native.Mathlib.Omega.{arith}
 use lib.ListN.{length, getD, drop, length-take}
 use Rattle.std.proofs.shelf.Bits.{and-mask}
-use Rattle.cells.specs.Limits.{mostLeaves}
+use Rattle.drawing.specs.Drawing.{mostLeaves}
 use Rattle.cells.specs.Truth.{bit}
 use Rattle.cells.specs.Netlist.{rowOf, leavesOf}
 use Rattle.cells.proofs.Pins.{low-bit}

@@ -15,7 +15,7 @@ use Rattle.drawing.specs.Drawing.{nodeOf, mostNodes}
 use Rattle.drawing.specs.Values.{bound}
 use Rattle.cells.specs.declared.cell.Cell.{Cell}
 use Rattle.cells.specs.declared.cover.Cover.{Cover}
-use Rattle.cells.specs.Limits.{mostLeaves}
+use Rattle.drawing.specs.Drawing.{mostLeaves}
 use Rattle.cells.specs.Netlist.{Netlist, look, plain, after, settled, outputValue, answers}
 use Rattle.cells.specs.Netlists.{netlistOf}
 use Rattle.cells.specs.Evaluate.{Holds, firstAbove, evaluateAnswer}

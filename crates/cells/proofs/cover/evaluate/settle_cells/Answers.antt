@@ -9,7 +9,7 @@ use Rattle.std.proofs.shelf.Tests.{leb-true}
 use Rattle.drawing.proofs.Lists.{every-at}
 use Rattle.drawing.proofs.ValueLaws.{binary-set}
 use Rattle.cells.specs.declared.cell.Cell.{Cell}
-use Rattle.cells.specs.Limits.{mostLeaves}
+use Rattle.drawing.specs.Drawing.{mostLeaves}
 use Rattle.cells.specs.Netlist.{after}
 use Rattle.cells.specs.Evaluate.{Holds}
 use Rattle.cells.proofs.Settle.{cell-more}

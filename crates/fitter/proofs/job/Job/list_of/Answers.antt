@@ -27,11 +27,11 @@ make-list-requires c κs =
     let j = c .args .self .now in
     let ns = c .nodes-nodes .result .now in
     let is = c .nodes-nodes .ensures in
-    record
-      { drawn = subst (λ z. sound z ≡ true) (sym is) (job-sound j)
-      ; tied = subst (λ z. isGate (at z (c .args .v)) ≡ true) (sym is) (c .pre .gate)
-      ; few = width-few j
-      ; first = left-at-hand j (c .args .v) (c .pre .gate) (c .pre .fanins) ns is (c .in-Gate .pair) (c .in-Gate .is) (c .row-left .result .now) (c .row-left .ensures)
-      ; second = right-at-hand j (c .args .v) (c .pre .gate) (c .pre .fanins) ns is (c .in-Gate .pair) (c .in-Gate .is) (c .row-right .result .now) (c .row-right .ensures)
-      ; room = c .pre .room
-      }
+    record {
+      drawn = subst (λ z. sound z ≡ true) (sym is) (job-sound j);
+      tied = subst (λ z. isGate (at z (c .args .v)) ≡ true) (sym is) (c .pre .gate);
+      few = width-few j;
+      first = left-at-hand j (c .args .v) (c .pre .gate) (c .pre .fanins) ns is (c .in-Gate .pair) (c .in-Gate .is) (c .row-left .result .now) (c .row-left .ensures);
+      second = right-at-hand j (c .args .v) (c .pre .gate) (c .pre .fanins) ns is (c .in-Gate .pair) (c .in-Gate .is) (c .row-right .result .now) (c .row-right .ensures);
+      room = c .pre .room;
+    }

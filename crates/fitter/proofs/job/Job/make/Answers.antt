@@ -16,18 +16,24 @@ ghost-self c =
     let m = c .in-Some .ensures tt .1 in
     let e = c .keep .ensures in
     let list = take (c .in-Some .n) (c .list-of .last .rows) in
-    let row : rowOf k (c .args .v) ≡ list = e .row ∙ ap (λ (z : ℕ). take z (c .list-of .last .rows)) (sub-zero (c .in-Some .n)) in
-    (j .part,
-      (keep-gates j k (c .args .v) list (c .pre .gate) m (e .held) row (e .others),
-        (keep-listed j k (c .args .v) list (c .pre .gate) m (e .held) row (e .others),
-          (keep-counted j k (c .args .v) list (c .pre .gate) m (e .held) row (e .others), tt))))
+    let row : rowOf k (c .args .v) ≡ list = e .row ∙ ap (λ (z : ℕ). take z (c .list-of .last .rows)) (sub-zero (c .in-Some .n)) in (
+      j .part,
+      (
+        keep-gates j k (c .args .v) list (c .pre .gate) m (e .held) row (e .others),
+        (
+          keep-listed j k (c .args .v) list (c .pre .gate) m (e .held) row (e .others),
+          (keep-counted j k (c .args .v) list (c .pre .gate) m (e .held) row (e .others), tt),
+        ),
+      ),
+    )
 
 pub returns-in-Some : need.returns-in-Some
 returns-in-Some c =
-    let j = c .args .self .now in
-    (refl,
+    let j = c .args .self .now in (
+      refl,
       (λ u. ap (λ z. getD z u false) (c .keep .ensures .held) ∙ held-set (j .lists .held) (c .args .v) u (omega arith)),
-      ap not (c .if-holds .ensures tt))
+      ap not (c .if-holds .ensures tt),
+    )
 
 pub returns-then-holds : need.returns-then-holds
 returns-then-holds c =

@@ -22,11 +22,11 @@ make-needed-requires c κs =
     let i = c .args .self .now in
     let l = c .loop-v in
     let in-range : l .v < length (bookOf i .drawing .nodes) = subst (λ z. l .v < length z) (c .nodes-v-end .ensures) (c .loop-v-test .taken) in
-    record
-      { inside = inside-same i (l .self) (l .v) (l .made) (l .inv) in-range
-      ; marked = marked-same i (l .self) (l .v) (l .made) (l .inv) (c .args .marks .now) (c .pre)
-      ; below = progress-below i (l .self) (l .v) (l .made) (l .inv)
-      }
+    record {
+      inside = inside-same i (l .self) (l .v) (l .made) (l .inv) in-range;
+      marked = marked-same i (l .self) (l .v) (l .made) (l .inv) (c .args .marks .now) (c .pre);
+      below = progress-below i (l .self) (l .v) (l .made) (l .inv);
+    }
 
 pub add-made : need.add-made
 add-made c =
@@ -43,9 +43,10 @@ loop-v-again c =
     let l = c .loop-v in
     let new = c .in-Continue-make-needed .field-0 in
     let m : c .if-branch .made ≡ l .made + cond new 1 0 =
-          elim (c .if-branch .came)
-            [ then-branch w ↦ w .made-is ∙ sym (ap (λ z. l .made + cond z 1 0) (w .if-branch .taken))
-            | else-branch w ↦ w .made-is ∙ sym (ap (λ z. l .made + cond z 1 0) (w .if-branch .left) ∙ add-zero (l .made)) ] in
+    elim (c .if-branch .came) [
+      | then-branch w ↦ w .made-is ∙ sym (ap (λ z. l .made + cond z 1 0) (w .if-branch .taken))
+      | else-branch w ↦ w .made-is ∙ sym (ap (λ z. l .made + cond z 1 0) (w .if-branch .left) ∙ add-zero (l .made))
+    ] in
     progress-step (c .args .self .now) (l .self) (c .make-needed .last .self) (l .v) (l .made) _ new (l .inv) (c .in-Continue-make-needed .ensures tt) m
 
 pub returns-in-Break-make-needed : need.returns-in-Break-make-needed
