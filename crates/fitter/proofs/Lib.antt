@@ -3,3 +3,4 @@ pub mod Stays
 pub mod Same
 pub mod AtHand
 pub mod Progress
+pub mod Arrivals
