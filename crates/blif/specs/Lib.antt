@@ -1,0 +1,3 @@
+pub mod Put
+pub mod Text
+pub mod Sections
