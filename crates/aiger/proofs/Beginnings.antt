@@ -1,10 +1,10 @@
 -- Beginnings of texts: a byte that breaks the pattern breaks it whatever follows, and where a text ends early, so does
 -- each beginning of it.
-use mathlib.Core.Path.{_≡_, refl, sym, ap, subst, _∙_}
-use mathlib.Core.Bool.{Bool, true, false, cond}
+use mathlib.Core.Path.{_≡_, refl, sym, ap, _∙_}
+use mathlib.Core.Bool.{Bool, true, false}
 use mathlib.Core.Logic.{_⊎_, inl, inr, ⊎-elim}
 use mathlib.Core.List.{List, [], _∷_, _++_, append-assoc}
-use Prim.Native.Nat.{ℕ, _+_, _-_, _≤_, _<_}
+use Prim.Native.Nat.{ℕ, _+_, _-_, _<_}
 use native.Mathlib.Omega.{arith}
 use lib.Dec.{eqb}
 use lib.ListN.{length, take, drop}
@@ -12,14 +12,12 @@ use Rattle.std.proofs.shelf.Lists.{length-append, take-at, take-append-drop, le
 use Rattle.std.proofs.shelf.Tests.{cases-bool, cond-true, cond-false}
 use Rattle.std.specs.declared.option.Option.{Option}
 use Rattle.std.specs.declared.option.Option.the-variants.{Some, None}
-use Rattle.std.specs.declared.result.Result.the-variants.{Ok, Err}
+use Rattle.std.specs.declared.result.Result.the-variants.{Err}
 use Rattle.drawing.specs.declared.refusal.Fault.{Fault}
 use Rattle.drawing.specs.declared.refusal.Rule.the-variants.{Pattern, Figures, Literal}
-use Rattle.aiger.specs.declared.line.Act.{Act}
-use Rattle.aiger.specs.declared.line.Act.the-variants.{Digit, Space, Newline, Stop}
 use Rattle.aiger.specs.declared.reader.Part.{Part}
 use Rattle.aiger.specs.Text.{word}
-use Rattle.aiger.specs.Reads.{act, Scan, broken, whole, scan, Sheet, width, fits, add, headed, Outcome, fault, after, readLines, readWord, read}
+use Rattle.aiger.specs.Reads.{Act, Digit, Space, Newline, Stop, act, Scan, broken, whole, scan, Sheet, width, fits, add, headed, Outcome, fault, after, readLines, readWord, read}
 use Rattle.aiger.specs.Laws.{Breaks-for-good, Ends-early}
 use Rattle.aiger.proofs.Lines.{turn, scan-turn}
 use Rattle.aiger.proofs.Faults.{ok-err, same-fault}

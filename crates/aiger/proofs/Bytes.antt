@@ -1,7 +1,7 @@
 -- What the reader does at a byte, in each part.
-use mathlib.Core.Path.{_≡_, refl, sym, ap, subst, _∙_}
-use mathlib.Core.List.{List, [], _∷_, _++_}
-use Prim.Native.Nat.{ℕ, suc, _+_, _≤_, _<_}
+use mathlib.Core.Path.{_≡_, refl, sym, ap, _∙_}
+use mathlib.Core.List.{List, [], _∷_}
+use Prim.Native.Nat.{ℕ, _+_, _≤_, _<_}
 use native.Mathlib.Omega.{arith}
 use mathlib.Core.Logic.{⊎-elim}
 use lib.ListN.{drop}
@@ -14,11 +14,11 @@ use Rattle.aiger.specs.declared.line.Line.{Line}
 use Rattle.aiger.specs.declared.reader.Part.{Part}
 use Rattle.aiger.specs.declared.reader.Part.the-variants.{Header, Inputs, Outputs, Gates, End}
 use Rattle.aiger.specs.declared.reader.Reader.{Reader}
-use Rattle.drawing.specs.declared.refusal.Rule.the-variants.{Pattern, Figures, Literal}
+use Rattle.drawing.specs.declared.refusal.Rule.the-variants.{Pattern, Literal}
 use Rattle.aiger.specs.Text.{word}
 use Rattle.drawing.specs.Drawing.{drawing}
-use Rattle.aiger.specs.Reads.{Scan, whole, broken, scan, width, fits, add, after, fault, readLines, readHeading, readWord, plan}
-use Rattle.aiger.specs.States.{scanOn, goOn, goOnIn, drafted, done, rest, closing, Goes, Closes, Breaks, Fresh, FreshIn, Sound, Closed, Stepped, Steps, Ended}
+use Rattle.aiger.specs.Reads.{Scan, scan, fits, add, after, fault, readLines, readHeading, readWord, plan}
+use Rattle.aiger.specs.States.{brokenAt, scanOn, goOn, goOnIn, drafted, rest, closing, Goes, Closes, Breaks, FreshIn, Sound, Closed, Stepped, Steps, Ended}
 
 abbrev pub withLine : Reader → Line → Reader
 withLine r l = record { part = r .part; letters = r .letters; line = l; inputs = r .inputs; outputs = r .outputs; gates = r .gates; draft = r .draft }
@@ -114,7 +114,7 @@ ends-line r s m b (Ok u) sound past e g f =
     }
 ends-line r s m b (Err x) sound past e g f = λ bs. ap (λ x. goOn r (x ∷ bs)) e ∙ closes r sound past 10 m g bs ∙ f bs
 
-pub past-end : (r : Reader) (b : ℕ) (f : Fault) → r .part ≡ End → f ≡ record { rule = Pattern; byte = r .line .pos; line = r .line .row } → (bs : List ℕ) → goOn r (b ∷ bs) ≡ Err f
+pub past-end : (r : Reader) (b : ℕ) (f : Fault) → r .part ≡ End → f ≡ brokenAt (r .line) → (bs : List ℕ) → goOn r (b ∷ bs) ≡ Err f
 unfolding readLines
 past-end r b f e is bs = ap (λ q. goOnIn q r (b ∷ bs)) e ∙ ap Err (sym is)
 
@@ -134,7 +134,7 @@ ends-in r Outputs f ne = refl
 ends-in r Gates f ne = refl
 ends-in r End f ne = absurd (ne refl)
 
-pub ends-early : (r : Reader) (f : Fault) → Sound r → (r .part ≡ End → ⊥) → f ≡ record { rule = Pattern; byte = r .line .pos; line = r .line .row } → goOn r [] ≡ Err f
+pub ends-early : (r : Reader) (f : Fault) → Sound r → (r .part ≡ End → ⊥) → f ≡ brokenAt (r .line) → goOn r [] ≡ Err f
 ends-early r f s ne is = ends-in r (r .part) (s .fresh) ne ∙ ap Err (sym is)
 
 pub ends-well : (r : Reader) → r .part ≡ End → goOn r [] ≡ Ok (drawing (drafted (r .draft) .nodes) (drafted (r .draft) .outputs))

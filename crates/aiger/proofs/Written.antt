@@ -1,28 +1,26 @@
 -- The text of a lawful drawing is accepted, and gives that drawing.
 use mathlib.Core.Path.{_≡_, refl, sym, ap, subst, _∙_}
-use mathlib.Core.Bool.{Bool, true, false, cond, not, _&&_}
+use mathlib.Core.Bool.{true, false}
 use mathlib.Core.Logic.{inl, inr}
 use mathlib.Core.List.{List, [], _∷_, _++_, map, append-assoc, append-nil}
-use Prim.Native.Nat.{ℕ, zero, suc, pred, _+_, _-_, _*_, _/_, _%_, _≤_, _<_}
+use Prim.Native.Nat.{ℕ, suc, _+_, _*_, _/_, _%_, _≤_, _<_}
 use native.Mathlib.Omega.{arith}
-use lib.Dec.{eqb, ltb}
 use lib.ListN.{length, getD, set, replicate}
 use Rattle.std.specs.shelf.Lists.{joined, All}
 use Rattle.std.proofs.shelf.Lists.{length-append, length-map, length-replicate, length-push, getD-at, set-at}
 use Rattle.std.proofs.shelf.Tests.{and-from, eq-eqb, lt-ltb, le-leb, both-ways, not-from-false, cond-true}
-use Rattle.std.specs.declared.option.Option.the-variants.{Some, None}
-use Rattle.std.specs.declared.result.Result.the-variants.{Ok, Err}
+use Rattle.std.specs.declared.result.Result.the-variants.{Ok}
 use Rattle.drawing.specs.declared.node.Node.{Node}
 use Rattle.drawing.specs.declared.node.Node.the-variants.{Constant, Input, Gate}
 use Rattle.aiger.specs.declared.reader.Part.{Part}
 use Rattle.aiger.specs.declared.reader.Part.the-variants.{Inputs, Outputs, Gates}
 use Rattle.drawing.specs.declared.refusal.Rule.the-variants.{Literal}
 use Rattle.drawing.specs.Sets.{In}
-use Rattle.drawing.specs.Drawing.{Drawing, drawing, nodeOf, isInput, soundAt, lawful}
+use Rattle.drawing.specs.Drawing.{Drawing, drawing, nodeOf, isInput, lawful}
 use Rattle.drawing.proofs.Sound.{sound-at, sound-some}
 use Rattle.drawing.proofs.Lawful.{Lawfully, lawful-says}
-use Rattle.aiger.specs.Text.{lineOf, inputRow, gateRow, rows, outputRows, body, heading, word, text}
-use Rattle.aiger.specs.Reads.{Scan, whole, scan, Sheet, width, headed, follows, fits, add, Outcome, fault, after, readLines, plan, blank, readHeading, readWord, read}
+use Rattle.aiger.specs.Text.{lineOf, inputRow, gateRow, rows, outputRows, body, heading, text}
+use Rattle.aiger.specs.Reads.{Sheet, width, headed, follows, fits, add, fault, after, readLines, plan, blank, readHeading, readWord, read}
 use Rattle.aiger.proofs.Lines.{scan-line}
 use Rattle.aiger.proofs.Rows.{plain, rows-count, Stands, sound-stands}
 
