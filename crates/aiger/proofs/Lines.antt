@@ -68,6 +68,11 @@ act-says more (Some v) b =
     (λ e. let ne = eqb-false _ _ z in (refl, eqb-true _ _ e, omega arith))
     (λ _. tt)))
 
+-- the bytes of some lines, and then of others
+pub joined-append : (xs ys : List (List ℕ)) → joined lineOf (xs ++ ys) ≡ joined lineOf xs ++ joined lineOf ys
+joined-append [] ys = refl
+joined-append (x ∷ xs) ys = ap (λ l. lineOf x ++ l) (joined-append xs ys) ∙ sym (append-assoc (lineOf x) (joined lineOf xs) (joined lineOf ys))
+
 -- From the bytes to the numbers.
 
 abbrev spaced : ℕ → List ℕ
