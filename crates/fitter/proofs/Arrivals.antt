@@ -75,11 +75,13 @@ module _ (j : Job) where
           past : (u v : ℕ) → u ≢ v → ltb u v ≡ ltb u (v + 1)
           past u v q = grind (arith, tells)
 
+          and-one : (a b : Bool) → b ≡ true → a ≡ (a && b)
+          and-one true b h = sym h
+          and-one false b h = refl
           at-v : cutBy F table (setsOf row) here ≡ cond (neededIn (bookOf j) v && ltb v (v + 1)) (takenCut F (bookOf j .drawing .nodes) (j .width) v) []
-          at-v = ⊎-elim
-              (λ (h : here ≡ true). cut-right (bookOf j .drawing .nodes) (bookOf j .drawing .outputs) job-lawful (j .width) F L width-wide v table (setsOf row) (before .filled) here same row-alike h ∙ sym (cond-true _ _ _ (and-from _ _ (sym same ∙ h) (lt-ltb v (v + 1) (omega arith)))))
-              (λ (h : here ≡ false). ap (cutBy F table (setsOf row)) h ∙ sym (cond-false _ _ _ (and-left _ _ (sym same ∙ h))))
-              (cases-bool here)
+          at-v =
+              cut-right (bookOf j .drawing .nodes) (bookOf j .drawing .outputs) job-lawful (j .width) F L width-wide v table (setsOf row) (before .filled) here same row-alike
+              ∙ ap (λ b. cond b (takenCut F (bookOf j .drawing .nodes) (j .width) v) []) (and-one (neededIn (bookOf j) v) (ltb v (v + 1)) (lt-ltb v (v + 1) (omega arith)))
 
 module _ {A : Type 0} (F : Delay A) (b : Book) where
   pub taken-start : (c : Cut) (n : ℕ) → leavesOf c ≡ [] → TakenBelow F b 0 (setsOf (replicate n c))

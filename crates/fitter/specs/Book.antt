@@ -8,7 +8,9 @@ use Rattle.std.specs.declared.result.Result.{Result}
 use Rattle.std.specs.declared.result.Result.the-variants.{Ok, Err}
 use Rattle.drawing.specs.declared.node.Pair.{Pair}
 use Rattle.drawing.specs.declared.refusal.Refusal.{Refusal}
-use Rattle.drawing.specs.declared.refusal.Refusal.the-variants.{BadWidth}
+use Rattle.drawing.specs.declared.refusal.Refusal.the-variants.{BadWidth, Text}
+use Rattle.drawing.specs.declared.refusal.Fault.{Fault}
+use Rattle.aiger.specs.Reads.{read}
 use Rattle.drawing.specs.Calls.{afterInput, afterGate, afterOutput}
 use Rattle.drawing.specs.Drawing.{Drawing, newDrawing, mostNodes}
 use Rattle.family.specs.Supplied.{isWidth}
@@ -49,3 +51,27 @@ nothing = replicate mostNodes false
 -- which lists are kept after the width is set: none if it changes, else those of before
 abbrev pub keptAfterWidth : ℕ → Book → List Bool → List Bool
 keptAfterWidth k b held = cond (isWidth k && not (eqb k (b .width))) nothing held
+
+-- a text is accepted as the text of a drawing, or refused with its fault
+abbrev pub loaded : Result Drawing Fault → Result (Unit {0}) Refusal
+loaded (Ok d) = Ok tt
+loaded (Err f) = Err (Text f)
+
+abbrev pub loadAnswer : List ℕ → Result (Unit {0}) Refusal
+loadAnswer t = loaded (read t)
+
+-- the drawing of an accepted text takes the place of the one before
+abbrev pub drawingFrom : Result Drawing Fault → Drawing → Drawing
+drawingFrom (Ok d) old = d
+drawingFrom (Err f) old = old
+
+abbrev pub loadBook : List ℕ → Book → Book
+loadBook t b = book (drawingFrom (read t) (b .drawing)) (b .width)
+
+-- which lists are kept after a load: none, or those of before where the text is refused
+abbrev pub keptFrom : Result Drawing Fault → List Bool → List Bool
+keptFrom (Ok d) held = nothing
+keptFrom (Err f) held = held
+
+abbrev pub keptAfterLoad : List ℕ → List Bool → List Bool
+keptAfterLoad t held = keptFrom (read t) held

@@ -2,12 +2,14 @@
 
 use super::Job;
 use crate::kept::Kept;
+use aiger::read;
 use drawing::node::Pair;
+use drawing::refusal::FaultRefusal;
 use drawing::refusal::Refusal;
 use drawing::table::Table;
 ghost use Rattle.drawing.specs.Calls.{gateAnswer, inputAnswer, outputAnswer, Unless};
 ghost use Rattle.drawing.specs.Drawing.{mostNodes};
-ghost use Rattle.fitter.specs.Book.{gateBook, inputBook, keptAfterWidth, newBook, outputBook, widthAnswer, widthBook};
+ghost use Rattle.fitter.specs.Book.{gateBook, inputBook, keptAfterLoad, keptAfterWidth, loadAnswer, loadBook, newBook, outputBook, widthAnswer, widthBook};
 ghost use Rattle.fitter.specs.Jobs.{bookOf, keptOf};
 ghost use lib.ListN.{replicate};
 ghost use mathlib.Core.Bool.{false};
@@ -70,6 +72,19 @@ impl Job {
             self.lists.clear();
             self.width = width;
         }
+        Ok(())
+    }
+
+    /// Replaces the drawing by that of a text. Nothing is kept then, and the width stays.
+    pub fn load(&mut self, text: &[u8]) -> Result<(), Refusal>
+        ensures answer { λ r. ⌜ r ≡ loadAnswer (now (text .entry)) ⌝ }
+        ensures book { λ _. ⌜ bookOf (now (self .exit)) ≡ loadBook (now (text .entry)) (bookOf (now (self .entry))) ⌝ }
+        ensures lists { λ _. ⌜ keptOf (now (self .exit)) ≡ keptAfterLoad (now (text .entry)) (keptOf (now (self .entry))) ⌝ }
+        ensures refused { λ r. ⌜ Unless r (now (self .exit) ≡ now (self .entry)) ⌝ }
+    {
+        let table = read(text)?;
+        self.lists.clear();
+        self.table = table;
         Ok(())
     }
 }

@@ -12,7 +12,7 @@ use Rattle.drawing.specs.Drawing.{nodeOf, mostNodes}
 use Rattle.drawing.proofs.Lists.{every-at}
 use Rattle.cells.specs.declared.cell.Cell.{Cell}
 use Rattle.cells.specs.declared.cover.Cover.{Cover}
-use Rattle.cells.specs.Limits.{mostLeaves}
+use Rattle.drawing.specs.Drawing.{mostLeaves}
 use Rattle.cells.specs.Netlist.{Netlist}
 use Rattle.cells.specs.Netlists.{netlistOf}
 use Rattle.cells.proofs.Laws.{cover-few, cover-outputs}

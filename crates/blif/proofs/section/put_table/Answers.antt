@@ -5,7 +5,8 @@ use native.Mathlib.Omega.{arith}
 use lib.Pow.{pow-mono}
 use Rattle.std.proofs.shelf.Bits.{and-mask, one-shl}
 use Rattle.std.proofs.shelf.Tests.{ne-eqb}
-use Rattle.cells.specs.Limits.{mostLeaves, tableBits}
+use Rattle.cells.specs.Limits.{tableBits}
+use Rattle.drawing.specs.Drawing.{mostLeaves}
 use Rattle.cells.specs.Truth.{bit}
 use Rattle.cells.proofs.Packed.{row-below}
 use Rattle.blif.specs.Put.{Wrote}
