@@ -1,37 +1,27 @@
 -- Going through the nodes by rising number: the cuts taken, and the arrivals.
-use Prim.Native.Nat.{ℕ, zero, suc, _+_, _≤_, _<_}
-use mathlib.Core.Path.{_≡_, refl, sym, ap, subst, _∙_}
-use mathlib.Core.Logic.{⊎-elim, _≢_}
-use mathlib.Core.Bool.{Bool, true, false, cond, _&&_}
-use mathlib.Core.List.{List, [], _∷_, _++_, map}
+use Prim.Native.Nat.{ℕ, _+_, _≤_, _<_}
+use mathlib.Core.Path.{_≡_, refl, sym, ap, _∙_}
+use mathlib.Core.Bool.{Bool, true}
+use mathlib.Core.List.{List, _++_}
 use native.Mathlib.Omega.{arith}
-use lib.Dec.{ltb, eqb}
-use lib.ListN.{length, getD, set, take, drop, replicate}
-use Rattle.std.specs.Iters.{counting}
+use lib.ListN.{length, set, take, drop}
 use Rattle.std.proofs.shelf.Counted.{fill-by-all}
-use Rattle.std.proofs.shelf.Lists.{getD-set-same, getD-set-other, drop-set-lt, take-append-drop, length-take-le, getD-take, map-set, length-map}
-use Rattle.std.proofs.shelf.Tests.{and-parts, and-left, and-right, cases-bool, cases-eq, cond-true, cond-false, leb-true, le-ltb, lt-ltb, and-from}
-use Rattle.std.proofs.shelf.Ways.{tells}
-use Rattle.drawing.specs.Drawing.{drawing, at, isGate, lawful}
+use Rattle.std.proofs.shelf.Lists.{drop-set-lt, take-append-drop, length-take-le, getD-take, length-map}
+use Rattle.std.proofs.shelf.Tests.{and-parts, leb-true}
+use Rattle.drawing.specs.Drawing.{drawing, lawful}
 use Rattle.drawing.specs.Sets.{below, every, elem}
 use Rattle.cuts.specs.declared.cut.Cut.{Cut}
 use Rattle.cuts.specs.Cuts.{leastCuts, Alike}
 use Rattle.cuts.specs.Leaves.{leavesOf, setsOf}
 use Rattle.family.specs.Family.{Delay, Laws}
-use Rattle.choice.specs.Choice.{takenCut, tabled, cutBy, arrivalBy, Filled}
-use Rattle.choice.proofs.Filling.{listed-within, listed-some, cut-right, filled-more}
+use Rattle.choice.specs.Choice.{tabled, cutBy, arrivalBy, Chosen}
+use Rattle.choice.proofs.Filling.{listed-within, listed-some, cut-right, filled-more, chosen-more}
 use Rattle.fitter.specs.declared.job.Job.{Job}
 use Rattle.fitter.specs.Book.{Book}
-use Rattle.fitter.specs.Jobs.{bookOf, keptOf}
+use Rattle.fitter.specs.Jobs.{bookOf}
 use Rattle.fitter.specs.Keeping.{rowOf}
 use Rattle.fitter.specs.Making.{neededIn}
-use Rattle.fitter.specs.Taking.{AllKept, arrivalTable, TakenBelow, Arrived}
-
--- sets of equal cuts without leaves
-pub no-sets : (c : Cut) (n u : ℕ) → leavesOf c ≡ [] → getD (setsOf (replicate n c)) u [] ≡ []
-no-sets c zero u e = refl
-no-sets c (suc n) zero e = e
-no-sets c (suc n) (suc u) e = no-sets c n u e
+use Rattle.fitter.specs.Taking.{AllKept, arrivalTable, Arrived}
 
 module _ (j : Job) where
   -- the law of the drawing, and that the width is at least 2
@@ -63,30 +53,12 @@ module _ (j : Job) where
         behind = ap (drop (length (bookOf j .drawing .nodes))) written ∙ drop-set-lt (length (bookOf j .drawing .nodes)) table v _ l ∙ before .behind;
       }
 
-      pub taken-step : (cs : List Cut) (c : Cut) → v < length cs → TakenBelow F (bookOf j) v (setsOf cs) → leavesOf c ≡ cutBy F table (setsOf row) here → TakenBelow F (bookOf j) (v + 1) (setsOf (set cs v c))
-      taken-step cs c m t e u =
-          ap (λ z. getD z u []) (map-set leavesOf cs v c)
-          ∙ ⊎-elim
-          (λ (q : u ≡ v). subst (λ z. getD (set (setsOf cs) v (leavesOf c)) z [] ≡ cond (neededIn (bookOf j) z && ltb z (v + 1)) (takenCut F (bookOf j .drawing .nodes) (j .width) z) []) (sym q)
-          (getD-set-same (setsOf cs) v (leavesOf c) [] (omega (arith, length-map cs leavesOf)) ∙ e ∙ at-v))
-          (λ (q : u ≢ v). getD-set-other (setsOf cs) v u (leavesOf c) [] q ∙ t u ∙ ap (λ z. cond (neededIn (bookOf j) u && z) (takenCut F (bookOf j .drawing .nodes) (j .width) u) []) (past u v q))
-          (cases-eq u v)
-        where
-          past : (u v : ℕ) → u ≢ v → ltb u v ≡ ltb u (v + 1)
-          past u v q = grind (arith, tells)
-
-          and-one : (a b : Bool) → b ≡ true → a ≡ (a && b)
-          and-one true b h = sym h
-          and-one false b h = refl
-          at-v : cutBy F table (setsOf row) here ≡ cond (neededIn (bookOf j) v && ltb v (v + 1)) (takenCut F (bookOf j .drawing .nodes) (j .width) v) []
-          at-v =
-              cut-right (bookOf j .drawing .nodes) (bookOf j .drawing .outputs) job-lawful (j .width) F L width-wide v table (setsOf row) (before .filled) here same row-alike
-              ∙ ap (λ b. cond b (takenCut F (bookOf j .drawing .nodes) (j .width) v) []) (and-one (neededIn (bookOf j) v) (ltb v (v + 1)) (lt-ltb v (v + 1) (omega arith)))
+      pub taken-step : (cs : List Cut) (c : Cut) → v < length cs → Chosen F (bookOf j .drawing .nodes) (bookOf j .drawing .outputs) (j .width) v (setsOf cs) → leavesOf c ≡ cutBy F table (setsOf row) here → Chosen F (bookOf j .drawing .nodes) (bookOf j .drawing .outputs) (j .width) (v + 1) (setsOf (set cs v c))
+      taken-step cs c m t e =
+          chosen-more F (bookOf j .drawing .nodes) (bookOf j .drawing .outputs) (j .width) leavesOf cs v c m t
+            (e ∙ cut-right (bookOf j .drawing .nodes) (bookOf j .drawing .outputs) job-lawful (j .width) F L width-wide v table (setsOf row) (before .filled) here same row-alike)
 
 module _ {A : Type 0} (F : Delay A) (b : Book) where
-  pub taken-start : (c : Cut) (n : ℕ) → leavesOf c ≡ [] → TakenBelow F b 0 (setsOf (replicate n c))
-  taken-start c n e u = no-sets c n u e ∙ sym (cond-false _ _ _ (and-right (neededIn b u) _ (le-ltb u 0 (omega arith))))
-
   pub arrived-start : (table : List A) → Arrived F b 0 table table
   arrived-start table = record { filled = λ u l. absurd (omega arith); behind = refl }
 

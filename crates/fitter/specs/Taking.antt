@@ -1,13 +1,12 @@
 -- The cuts that the needed gates take, and the table of arrivals.
-use Prim.Native.Nat.{ℕ, _<_}
+use Prim.Native.Nat.{ℕ}
 use mathlib.Core.Path.{_≡_}
-use mathlib.Core.Bool.{Bool, true, false, cond, _&&_}
-use mathlib.Core.List.{List, [], map}
-use lib.Dec.{ltb}
+use mathlib.Core.Bool.{true, false}
+use mathlib.Core.List.{List, map}
 use lib.ListN.{length, getD, drop}
 use Rattle.std.specs.Iters.{counting}
 use Rattle.family.specs.Family.{Delay}
-use Rattle.choice.specs.Choice.{takenCut, tabled, Filled}
+use Rattle.choice.specs.Choice.{tabled, Filled}
 use Rattle.fitter.specs.declared.job.Job.{Job}
 use Rattle.fitter.specs.Book.{Book}
 use Rattle.fitter.specs.Jobs.{bookOf, keptOf}
@@ -21,10 +20,6 @@ module _ {A : Type 0} (F : Delay A) (b : Book) where
   -- the arrival table: for each node its best arrival, or the start where a gate is not needed
   abbrev pub arrivalTable : List A
   arrivalTable = map (tabled F (b .drawing .nodes) (b .drawing .outputs) (b .width)) (counting 0 (length (b .drawing .nodes)))
-
-  -- sets by node: the cut that each needed gate below v takes, and nothing elsewhere
-  abbrev pub TakenBelow : ℕ → List (List ℕ) → Type 0
-  TakenBelow v sets = (u : ℕ) → getD sets u [] ≡ cond (neededIn b u && ltb u v) (takenCut F (b .drawing .nodes) (b .width) u) []
 
   -- the nodes below v have their arrivals, and behind the nodes the table is as it was
   pub record Arrived (v : ℕ) (old new : List A) : Type 0 where

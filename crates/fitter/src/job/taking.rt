@@ -6,10 +6,11 @@ use cuts::cut::Cut;
 use drawing::table::calls::MOST_NODES;
 use family::Family;
 ghost use Prim.Native.Nat.{_≤_};
+ghost use Rattle.choice.specs.Choice.{Chosen};
 ghost use Rattle.cuts.specs.Leaves.{setsOf};
 ghost use Rattle.fitter.specs.Jobs.{bookOf};
 ghost use Rattle.fitter.specs.Making.{MarksNeeded};
-ghost use Rattle.fitter.specs.Taking.{AllKept, arrivalTable, TakenBelow};
+ghost use Rattle.fitter.specs.Taking.{AllKept, arrivalTable};
 ghost use lib.ListN.{drop, length};
 ghost use mathlib.Core.List.{_++_};
 ghost use mathlib.Core.Path.{_≡_};
@@ -25,7 +26,7 @@ impl Job {
         requires marked { ⌜ MarksNeeded (bookOf (now self) .drawing) (now marks) ⌝ }
         requires lists { ⌜ AllKept (now self) ⌝ }
         requires room { ⌜ length (bookOf (now self) .drawing .nodes) ≤ length (now table) ⌝ }
-        ensures cuts { λ r. ⌜ TakenBelow (delay (now (family .entry))) (bookOf (now (self .entry))) (length (bookOf (now (self .entry)) .drawing .nodes)) (setsOf r) ⌝ }
+        ensures cuts { λ r. ⌜ Chosen (delay (now (family .entry))) (bookOf (now (self .entry)) .drawing .nodes) (bookOf (now (self .entry)) .drawing .outputs) (now (self .entry) .width) (length (bookOf (now (self .entry)) .drawing .nodes)) (setsOf r) ⌝ }
         ensures arrivals { λ _. ⌜ now (table .exit) ≡ arrivalTable (delay (now (family .entry))) (bookOf (now (self .entry))) ++ drop (length (bookOf (now (self .entry)) .drawing .nodes)) (now (table .entry)) ⌝ }
     {
         let mut cuts = [Cut::empty(); MOST_NODES];

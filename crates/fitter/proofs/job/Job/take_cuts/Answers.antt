@@ -2,18 +2,19 @@ use Prim.Native.Nat.{_<_, _≤_}
 use mathlib.Core.Path.{_≡_, refl, sym, ap, subst, _∙_}
 use native.Mathlib.Omega.{arith}
 use lib.ListN.{length, length-set}
+use Rattle.choice.specs.Choice.{Chosen}
 use Rattle.cuts.specs.Leaves.{setsOf}
 use Rattle.fitter.specs.Jobs.{bookOf}
-use Rattle.fitter.specs.Taking.{TakenBelow, Arrived}
+use Rattle.fitter.specs.Taking.{Arrived}
 use Rattle.fitter.proofs.AtHand.{job-few}
-use Rattle.fitter.proofs.Arrivals.{row-some, row-within, arrived-start, arrived-step, arrived-done, taken-start, taken-step}
+use Rattle.fitter.proofs.Arrivals.{row-some, row-within, arrived-start, arrived-step, arrived-done, taken-step}
 use Rattle.fitter.proofs.job.Job.take_cuts.Needs as need
 
 pub loop-v-holds : need.loop-v-holds
 loop-v-holds g c =
     let F = g .F·Family .delay (c .args .family .now) in
     let b = bookOf (c .args .self .now) in
-    (refl, taken-start F b (c .empty-cuts .result) 256 (c .empty-cuts .ensures), arrived-start F b (c .args .table .now))
+    (refl, (λ u l. absurd (omega arith)), arrived-start F b (c .args .table .now))
 
 pub arrive-requires : need.arrive-requires
 arrive-requires g c κs =
@@ -47,6 +48,6 @@ returns g c =
     let F = g .F·Family .delay (c .args .family .now) in
     let e : l .v ≡ length (bookOf j .drawing .nodes) = omega (arith, ap length (c .nodes-v-end .ensures)) in
     record {
-      cuts = subst (λ z. TakenBelow F (bookOf j) z (setsOf (l .cuts))) e (l .inv .1);
+      cuts = subst (λ z. Chosen F (bookOf j .drawing .nodes) (bookOf j .drawing .outputs) (j .width) z (setsOf (l .cuts))) e (l .inv .1);
       arrivals = arrived-done F (bookOf j) (c .args .table .now) (l .table) (omega (arith, l .kept .table, c .pre .room)) (subst (λ z. Arrived F (bookOf j) z (c .args .table .now) (l .table)) e (l .inv .2));
     }
