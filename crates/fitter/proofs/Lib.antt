@@ -4,3 +4,4 @@ pub mod Same
 pub mod AtHand
 pub mod Progress
 pub mod Arrivals
+pub mod Dependents
