@@ -5,3 +5,4 @@ pub mod AtHand
 pub mod Progress
 pub mod Arrivals
 pub mod Dependents
+pub mod Retied
