@@ -3,11 +3,11 @@ use Prim.Native.Nat.{ℕ, _+_, _≤_, _<_}
 use mathlib.Core.Path.{_≡_, refl, sym, ap, subst, _∙_}
 use mathlib.Core.Logic.{inl, ⊎-elim, _≢_}
 use mathlib.Core.Bool.{Bool, true, false, not}
-use mathlib.Core.List.{List, [], _∷_}
+use mathlib.Core.List.{List, [], _∷_, map}
 use native.Mathlib.Omega.{arith}
 use lib.ListN.{length, getD, set}
 use Rattle.std.proofs.shelf.Tests.{and-parts, cases-bool, cases-eq, cond-true, cond-false, and-left, and-right, not-from-true, not-from-false, and-from}
-use Rattle.std.proofs.shelf.Lists.{getD-set-same, getD-set-other}
+use Rattle.std.proofs.shelf.Lists.{getD-set-same, getD-set-other, length-set, getD-map}
 use Rattle.drawing.specs.declared.node.Node.{Node}
 use Rattle.drawing.specs.Sets.{below, every, In}
 use Rattle.drawing.specs.Drawing.{drawing, at, isGate, lawful}
@@ -18,7 +18,7 @@ use Rattle.drawing.proofs.Lawful.{lawful-says}
 use Rattle.cuts.specs.Cuts.{leastCuts, Alike}
 use Rattle.cuts.proofs.LeastCuts.{list-in}
 use Rattle.family.specs.Family.{Delay, Laws, cellArrival}
-use Rattle.choice.specs.Choice.{taken, best, takenCut, tabled, Filled, cutBy, arrivalBy}
+use Rattle.choice.specs.Choice.{taken, best, takenCut, tabled, Filled, cutAt, Chosen, cutBy, arrivalBy}
 use Rattle.choice.proofs.Optimal.{best-plain}
 use Rattle.choice.proofs.OwnCover.{gate-range, list-some}
 use Rattle.choice.proofs.Needed.{needed-suffice}
@@ -69,9 +69,13 @@ module _ (nodes : List Node) (outs : List ℕ) (law : lawful (drawing nodes outs
         needed-suffice F L nodes outs k v table sets (w .nodes-sound) wide (w .outputs-named) n filled a
 
     module _ (here : Bool) (same : here ≡ needed nodes outs v) (list : here ≡ true → Alike sets (leastCuts nodes k v)) where
-      -- a needed gate takes its cut
-      pub cut-right : here ≡ true → cutBy F table sets here ≡ takenCut F nodes k v
-      cut-right h = subst (λ b. cutBy F table sets b ≡ takenCut F nodes k v) (sym h) (suffices (sym same ∙ h) (list h) .0)
+      -- a needed gate takes its cut, and every other node none
+      pub cut-right : cutBy F table sets here ≡ cutAt F nodes outs k v
+      cut-right =
+          ⊎-elim
+          (λ (h : here ≡ true). subst (λ b. cutBy F table sets b ≡ cutAt F nodes outs k v) (sym h) (suffices (sym same ∙ h) (list h) .0 ∙ sym (cond-true _ _ _ (sym same ∙ h))))
+          (λ (h : here ≡ false). subst (λ b. cutBy F table sets b ≡ cutAt F nodes outs k v) (sym h) (sym (cond-false (needed nodes outs v) _ _ (sym same ∙ h))))
+          (cases-bool here)
 
       arrival-right : v < length nodes → arrivalBy F table sets here ≡ tabled F nodes outs k v
       arrival-right l =
@@ -91,3 +95,13 @@ module _ (nodes : List Node) (outs : List ℕ) (law : lawful (drawing nodes outs
           (λ (s : u ≡ v). ap (λ z. getD (set table v x) z (F .start)) s ∙ getD-set-same table v x (F .start) room ∙ arrival-right l ∙ ap (tabled F nodes outs k) (sym s))
           (λ (s : u ≢ v). getD-set-other table v u x (F .start) s ∙ filled u (omega arith))
           (cases-eq u v)
+
+-- one more cut, among those by node
+pub chosen-more : {A X : Type 0} (F : Delay A) (nodes : List Node) (outs : List ℕ) (k : ℕ) (f : X → List ℕ) (xs : List X) (v : ℕ) (x : X) → v < length xs → Chosen F nodes outs k v (map f xs) → f x ≡ cutAt F nodes outs k v → Chosen F nodes outs k (v + 1) (map f (set xs v x))
+chosen-more F nodes outs k f xs v x l h e u b =
+    let m : u < length (set xs v x) = omega (arith, length-set xs v x) in
+    getD-map f (set xs v x) u x [] m
+    ∙ ⊎-elim
+    (λ (s : u ≡ v). ap (λ z. f (getD (set xs v x) z x)) s ∙ ap f (getD-set-same xs v x x l) ∙ e ∙ ap (cutAt F nodes outs k) (sym s))
+    (λ (s : u ≢ v). ap f (getD-set-other xs v u x x s) ∙ sym (getD-map f xs u x [] (omega arith)) ∙ h u (omega arith))
+    (cases-eq u v)

@@ -5,3 +5,4 @@ pub mod Needed
 pub mod Marking
 pub mod Choosing
 pub mod Filling
+pub mod Cells

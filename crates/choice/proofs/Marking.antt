@@ -9,7 +9,7 @@ use lib.Dec.{eqb, ltb}
 use lib.ListN.{length, getD, set, replicate}
 use Rattle.std.proofs.shelf.Tests.{and-parts, or-cases, or-left, or-right, both-ways, eqb-true, eq-eqb, ne-eqb, cases-eq, cases-lt, ltb-true, lt-ltb}
 use Rattle.std.proofs.shelf.Ways.{same-from-decides}
-use Rattle.std.proofs.shelf.Lists.{getD-set-same, getD-set-other, length-set, getD-replicate, length-replicate, getD-past}
+use Rattle.std.proofs.shelf.Lists.{getD-set-same, getD-set-other, length-set, getD-replicate, length-replicate, getD-past, getD-map}
 use Rattle.drawing.specs.Sets.{mem, below, In}
 use Rattle.drawing.specs.declared.node.Node.{Node}
 use Rattle.drawing.specs.Drawing.{drawing, at, nodeOf, fanins, isGate, lawful}
@@ -20,7 +20,7 @@ use Rattle.drawing.proofs.SetLaws.{below-more}
 use Rattle.drawing.proofs.ReachLaws.{reach-ways, reach-range, out-direct, out-down}
 use Rattle.drawing.proofs.Sound.{sound-at}
 use Rattle.drawing.proofs.Lawful.{lawful-says}
-use Rattle.choice.specs.Marks.{markAll, Marks}
+use Rattle.choice.specs.Marks.{markAll, Marks, leavesAt, edgesBy}
 
 pub length-marks : (marks : List Bool) (us : List ℕ) → length (markAll marks us) ≡ length marks
 length-marks marks [] = refl
@@ -143,3 +143,7 @@ module _ (nodes : List Node) (outs : List ℕ) (law : lawful (drawing nodes outs
   -- a gate is needed if it is marked
   pub marked-needed : (marks : List Bool) → Marks (λ w. fanins (at nodes w)) (length nodes) outs marks → (v : ℕ) → needed nodes outs v ≡ (isGate (at nodes v) && getD marks v false)
   marked-needed marks m v = ap (λ b. isGate (at nodes v) && b) (sym (m v))
+
+-- the leaves of the cut that stands at u
+pub leaves-here : {X : Type 0} (f : X → List ℕ) (nodes : List Node) (xs : List X) (u : ℕ) (x : X) → u < length xs → x ≡ getD xs u x → leavesAt (at nodes u) (f x) ≡ edgesBy nodes (map f xs) u
+leaves-here f nodes xs u x l e = ap (leavesAt (at nodes u)) (ap f e ∙ sym (getD-map f xs u x [] l))

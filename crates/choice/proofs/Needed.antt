@@ -55,17 +55,19 @@ module _ {A : Type 0} (F : Delay A) where
   taken-alike a b [] h = refl
   taken-alike a b (t ∷ ts) h = takenFrom-alike a b t ts (h t (inl refl)) (λ u m. h u (inr m))
 
+-- what a node that the outputs reach depends on, they reach
+pub reached-down : (nodes : List Node) (outs : List ℕ) (u v : ℕ) → sound nodes ≡ true → reachOut (λ w. fanins (at nodes w)) (length nodes) outs v ≡ true → depends nodes u v ≡ true → reachOut (λ w. fanins (at nodes w)) (length nodes) outs u ≡ true
+reached-down nodes outs u v d n h =
+    let ties = λ (w : ℕ). fanins (at nodes w) in
+    let r = some-in (λ o. eqb (nodeOf o) v || reach ties (length nodes) v (nodeOf o)) outs n in
+    let o = r .0 in
+    in-some (λ o. eqb (nodeOf o) u || reach ties (length nodes) u (nodeOf o)) o outs (r .1)
+    (or-right (eqb (nodeOf o) u) (reach ties (length nodes) u (nodeOf o))
+    (⊎-elim (λ e. rw (eqb-true (nodeOf o) v e) h) (λ e. reach-trans ties (length nodes) (λ w f l m. fanins-below nodes w f d l m) u v (nodeOf o) h e) (or-cases _ _ (r .2))))
+
 -- what a needed gate depends on is needed, if it is a gate
 needed-down : (nodes : List Node) (outs : List ℕ) (u v : ℕ) → sound nodes ≡ true → needed nodes outs v ≡ true → depends nodes u v ≡ true → isGate (at nodes u) ≡ true → needed nodes outs u ≡ true
-needed-down nodes outs u v d n h g =
-    let ties = λ (w : ℕ). fanins (at nodes w) in
-    let p = and-parts (isGate (at nodes v)) (reachOut ties (length nodes) outs v) n in
-    let r = some-in (λ o. eqb (nodeOf o) v || reach ties (length nodes) v (nodeOf o)) outs (p .1) in
-    let o = r .0 in
-    and-from (isGate (at nodes u)) (reachOut ties (length nodes) outs u) g
-    (in-some (λ o. eqb (nodeOf o) u || reach ties (length nodes) u (nodeOf o)) o outs (r .1)
-    (or-right (eqb (nodeOf o) u) (reach ties (length nodes) u (nodeOf o))
-    (⊎-elim (λ e. rw (eqb-true (nodeOf o) v e) h) (λ e. reach-trans ties (length nodes) (λ w f l m. fanins-below nodes w f d l m) u v (nodeOf o) h e) (or-cases _ _ (r .2)))))
+needed-down nodes outs u v d n h g = and-from (isGate (at nodes u)) _ g (reached-down nodes outs u v d (and-parts (isGate (at nodes v)) _ n .1) h)
 
 module _ {A : Type 0} (F : Delay A) (L : Laws F) where
   pub needed-suffice : Needed-suffice F

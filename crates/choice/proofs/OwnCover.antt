@@ -70,7 +70,7 @@ module _ {A : Type 0} (F : Delay A) (L : Laws F) (nodes : List Node) (d : sound 
   unfolding takenCut
   taken-listed v l g = list-in nodes k v _ (taken-in F L (take v (best F nodes k)) (leastCuts nodes k v) (list-some nodes d v l g k wide))
 
-  edges-below : (v f : ℕ) → v < length nodes → In f (edgesOf F nodes k v) → f < v
+  pub edges-below : (v f : ℕ) → v < length nodes → In f (edgesOf F nodes k v) → f < v
   edges-below v f l m = ⊎-elim yes′ no′ (cases-bool (isGate (at nodes v)))
     where
       yes′ : isGate (at nodes v) ≡ true → f < v

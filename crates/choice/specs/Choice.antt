@@ -82,3 +82,11 @@ module _ {A : Type 0} (F : Delay A) where
 
   abbrev pub arrivalBy : List A → List (List ℕ) → Bool → A
   arrivalBy table sets here = let x = cellArrival F table (taken table sets) in cond here x (F .start)
+
+  -- the cut that a needed gate takes, and no leaves at any other node
+  abbrev pub cutAt : List Node → List ℕ → ℕ → ℕ → List ℕ
+  cutAt nodes outs k v = let c = takenCut nodes k v in cond (needed nodes outs v) c []
+
+  -- the cuts by node are right below v
+  abbrev pub Chosen : List Node → List ℕ → ℕ → ℕ → List (List ℕ) → Type 0
+  Chosen nodes outs k v sets = (u : ℕ) → u < v → getD sets u [] ≡ cutAt nodes outs k u

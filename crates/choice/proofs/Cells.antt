@@ -1,0 +1,85 @@
+-- What the outputs reach by the cuts that the needed gates take: the cells.
+use Prim.Native.Nat.{ℕ, zero, suc, _≤_, _<_}
+use mathlib.Core.Path.{_≡_, refl, sym, ap, subst, _∙_}
+use mathlib.Core.Logic.{⊎-elim}
+use mathlib.Core.Bool.{Bool, true, false, cond, _&&_, _||_}
+use mathlib.Core.List.{List, []}
+use native.Mathlib.Omega.{arith}
+use lib.Dec.{eqb, ltb}
+use lib.ListN.{length, getD}
+use Rattle.std.proofs.shelf.Tests.{and-from, cases-bool, cond-true, cond-false, ltb-true}
+use Rattle.drawing.specs.declared.node.Node.{Node}
+use Rattle.drawing.specs.Sets.{below, some, In}
+use Rattle.drawing.specs.Drawing.{drawing, at, nodeOf, isGate, fanins, lawful}
+use Rattle.drawing.specs.Reach.{reach, reachOut, needed}
+use Rattle.drawing.proofs.Members.{some-same, every-in, in-mem}
+use Rattle.drawing.proofs.SetLaws.{says-below}
+use Rattle.drawing.proofs.Lawful.{lawful-says}
+use Rattle.drawing.proofs.Sound.{fanins-below}
+use Rattle.drawing.proofs.ReachLaws.{reach-is, out-direct}
+use Rattle.cuts.proofs.Leaves.{leaves-depend}
+use Rattle.family.specs.Family.{Delay, Laws}
+use Rattle.choice.specs.Choice.{takenCut, edgesOf, isCell, cutAt, Chosen}
+use Rattle.choice.specs.Marks.{Marks, edgesBy}
+use Rattle.choice.proofs.OwnCover.{taken-listed, edges-below}
+use Rattle.choice.proofs.Needed.{reached-down}
+
+-- edges that agree where P holds, and lead on to where it holds, reach the same from there
+module _ (e f : ℕ → List ℕ) (size : ℕ) (eBelow : (v u : ℕ) → v < size → In u (e v) → u < v) (fBelow : (v u : ℕ) → v < size → In u (f v) → u < v) (P : ℕ → Type 0) (agree : (v : ℕ) → v < size → P v → e v ≡ f v) (on : (v u : ℕ) → v < size → P v → In u (e v) → P u) where
+  alike′ : (bound u v : ℕ) → v < bound → v < size → P v → reach e size u v ≡ reach f size u v
+  alike′ zero u v b l p = absurd (omega arith)
+  alike′ (suc bound) u v b l p =
+      reach-is e size eBelow u v l
+      ∙ some-same (λ w. eqb w u || reach e size u w) (λ w. eqb w u || reach f size u w) (e v) (λ w m. let q = eBelow v w l m in ap (λ z. eqb w u || z) (alike′ bound u w (omega arith) (omega arith) (on v w l p m)))
+      ∙ ap (some (λ w. eqb w u || reach f size u w)) (agree v l p)
+      ∙ sym (reach-is f size fBelow u v l)
+
+  pub out-alike : (outs : List ℕ) → ((o : ℕ) → In o outs → (nodeOf o < size) × P (nodeOf o)) → (u : ℕ) → reachOut e size outs u ≡ reachOut f size outs u
+  out-alike outs h u = some-same (λ o. eqb (nodeOf o) u || reach e size u (nodeOf o)) (λ o. eqb (nodeOf o) u || reach f size u (nodeOf o)) outs (λ o i. ap (λ z. eqb (nodeOf o) u || z) (alike′ (suc (nodeOf o)) u (nodeOf o) (omega arith) (h o i .0) (h o i .1)))
+
+module _ {A : Type 0} (F : Delay A) (L : Laws F) (nodes : List Node) (outs : List ℕ) (law : lawful (drawing nodes outs) ≡ true) (k : ℕ) (wide : 2 ≤ k) (sets : List (List ℕ)) (chosen : Chosen F nodes outs k (length nodes) sets) where
+  -- at a node that the outputs depend on, the edges are those of the cut taken
+  abbrev Reached : ℕ → Type 0
+  Reached v = reachOut (λ w. fanins (at nodes w)) (length nodes) outs v ≡ true
+
+  edges-agree : (v : ℕ) → v < length nodes → Reached v → edgesOf F nodes k v ≡ edgesBy nodes sets v
+  edges-agree v l p =
+      ⊎-elim
+      (λ (g : isGate (at nodes v) ≡ true). ap (λ z. cond (isGate (at nodes v)) z []) (sym (chosen v l ∙ cond-true (needed nodes outs v) _ _ (and-from (isGate (at nodes v)) _ g p))))
+      (λ (g : isGate (at nodes v) ≡ false). cond-false (isGate (at nodes v)) (takenCut F nodes k v) [] g ∙ sym (cond-false (isGate (at nodes v)) (getD sets v []) [] g))
+      (cases-bool (isGate (at nodes v)))
+
+  reached-on : (v u : ℕ) → v < length nodes → Reached v → In u (edgesOf F nodes k v) → Reached u
+  reached-on v u l p m =
+      let d = lawful-says nodes outs law .nodes-sound in
+      ⊎-elim
+      (λ (g : isGate (at nodes v) ≡ true).
+      let leaf = subst (λ z. In u z) (cond-true (isGate (at nodes v)) (takenCut F nodes k v) [] g) m in
+      reached-down nodes outs u v d p (leaves-depend nodes d v (takenCut F nodes k v) l (taken-listed F L nodes d k wide v l g .0) u (in-mem u _ leaf)))
+      (λ (g : isGate (at nodes v) ≡ false). absurd (subst (λ z. In u z) (cond-false (isGate (at nodes v)) (takenCut F nodes k v) [] g) m))
+      (cases-bool (isGate (at nodes v)))
+
+  -- the leaves of each cut stand below its gate
+  pub chosen-under : (v : ℕ) → v < length nodes → below v (edgesBy nodes sets v) ≡ true
+  chosen-under v l =
+      let d = lawful-says nodes outs law .nodes-sound in
+      let none : below v [] ≡ true = refl in
+      ⊎-elim
+      (λ (g : isGate (at nodes v) ≡ true).
+      let listed = taken-listed F L nodes d k wide v l g .0 in
+      subst (λ z. below v z ≡ true) (sym (cond-true (isGate (at nodes v)) (getD sets v []) [] g ∙ chosen v l))
+      (⊎-elim
+      (λ n. subst (λ z. below v z ≡ true) (sym (cond-true (needed nodes outs v) (takenCut F nodes k v) [] n)) (says-below v _ (listed .isCut .under)))
+      (λ n. subst (λ z. below v z ≡ true) (sym (cond-false (needed nodes outs v) (takenCut F nodes k v) [] n)) none)
+      (cases-bool (needed nodes outs v))))
+      (λ (g : isGate (at nodes v) ≡ false). subst (λ z. below v z ≡ true) (sym (cond-false (isGate (at nodes v)) (getD sets v []) [] g)) none)
+      (cases-bool (isGate (at nodes v)))
+
+  -- a gate is a cell if the outputs reach it by these cuts
+  pub cells-marked : (marks : List Bool) → Marks (edgesBy nodes sets) (length nodes) outs marks → (v : ℕ) → isCell F nodes k outs v ≡ (isGate (at nodes v) && getD marks v false)
+  cells-marked marks m v =
+      let w = lawful-says nodes outs law in
+      let d = w .nodes-sound in
+      ap (λ z. isGate (at nodes v) && z)
+      (out-alike (edgesOf F nodes k) (edgesBy nodes sets) (length nodes) (edges-below F L nodes d k wide) (λ a u l i. ltb-true u a (every-in (λ x. ltb x a) u _ (chosen-under a l) i)) Reached edges-agree reached-on outs (λ o i. (w .outputs-named o i, out-direct (λ x. fanins (at nodes x)) (length nodes) (λ a u l j. fanins-below nodes a u d l j) outs o i)) v
+      ∙ sym (m v))
