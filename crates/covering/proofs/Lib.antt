@@ -1,0 +1,3 @@
+pub mod RivalCover
+pub mod RivalTimes
+pub mod ChosenCover
