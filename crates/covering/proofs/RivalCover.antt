@@ -22,6 +22,7 @@ use Rattle.drawing.proofs.Members.{in-every, in-mem, mem-in, in-keep, keep-in, 
 use Rattle.drawing.proofs.SetLaws.{rises-mem, says-below}
 use Rattle.drawing.proofs.Sound.{gate-positive, kind-above}
 use Rattle.drawing.proofs.InputLaws.{input-listed, gate-no-input, inputs-rise}
+use Rattle.drawing.proofs.ValueLaws.{first-constant}
 use Rattle.drawing.proofs.Lawful.{lawful-says}
 use Rattle.drawing.proofs.Lists.{rises-few}
 use Rattle.cuts.proofs.LeastCuts.{cut-says}
@@ -113,7 +114,7 @@ module _ (nodes : List Node) (outs : List ℕ) (k : ℕ) (picked : ℕ → Bool)
 
   -- the cover is lawful as far as it goes
   pub lawful-upto : (v : ℕ) → lawfulCover (upTo v) ≡ true
-  lawful-upto zero = says-cover (upTo 0) record { inputs-rise = inputs-rise nodes d; roots-rise = refl; cells-lawful = refl; outputs-lawful = refl }
+  lawful-upto zero = says-cover (upTo 0) record { inputs-rise = inputs-rise nodes (first-constant nodes d); roots-rise = refl; cells-lawful = refl; outputs-lawful = refl }
   lawful-upto (suc v) =
       let h = lawful-upto v in
       subst (λ n. lawfulCover (upTo n) ≡ true) (add-one v)

@@ -1,5 +1,7 @@
 //! The last pass of map: filling a cover with the chosen cells.
 
+pub mod fill;
+
 use family::Family;
 ghost use Rattle.covering.specs.Claims.{Chosen-agrees, Chosen-best, Chosen-covers, Chosen-first, Chosen-fits, Chosen-narrow, Rivals-cover};
 

@@ -12,10 +12,9 @@ use Rattle.std.proofs.shelf.Tests.{and-from, both-ways, cases-bool, lt-ltb, eqb
 use Rattle.drawing.specs.declared.node.Node.{Node}
 use Rattle.drawing.specs.declared.node.Node.the-variants.{Constant, Input, Gate}
 use Rattle.drawing.specs.Sets.{mem, rises, below}
-use Rattle.drawing.specs.Drawing.{at, isInput, isGate, sound}
+use Rattle.drawing.specs.Drawing.{at, isInput, isGate}
 use Rattle.drawing.specs.Values.{inputsFrom, inputsOf}
 use Rattle.drawing.proofs.SetLaws.{mem-cases, rises-weaker}
-use Rattle.drawing.proofs.ValueLaws.{first-constant}
 
 -- numbers are counted from that of the first node
 inputs-above : (i : ℕ) (ns : List Node) (n : ℕ) → mem n (inputsFrom i ns) ≡ true → i ≤ n
@@ -88,12 +87,9 @@ inputs-from-rise m i (Constant ∷ ns) l = inputs-from-rise m (suc i) ns (omega 
 inputs-from-rise m i (Gate p ∷ ns) l = inputs-from-rise m (suc i) ns (omega arith)
 inputs-from-rise m i (Input ∷ ns) l = and-from _ _ (lt-ltb m i l) (inputs-from-rise i (suc i) ns (omega arith))
 
--- they rise from 1 or more, as node 0 is the constant
-pub inputs-rise : (nodes : List Node) → sound nodes ≡ true → rises 0 (inputsOf nodes) ≡ true
-inputs-rise nodes d = go nodes (first-constant nodes d)
-  where
-    go : (ns : List Node) → at ns 0 ≡ Constant → rises 0 (inputsOf ns) ≡ true
-    go [] e = refl
-    go (Constant ∷ ns) e = inputs-from-rise 0 1 ns (omega arith)
-    go (Input ∷ ns) e = absurd (both-ways false refl (sym (ap isInput e)))
-    go (Gate p ∷ ns) e = inputs-from-rise 0 1 ns (omega arith)
+-- they rise from 1 or more where node 0 is the constant
+pub inputs-rise : (nodes : List Node) → at nodes 0 ≡ Constant → rises 0 (inputsOf nodes) ≡ true
+inputs-rise [] e = refl
+inputs-rise (Constant ∷ ns) e = inputs-from-rise 0 1 ns (omega arith)
+inputs-rise (Input ∷ ns) e = absurd (both-ways false refl (sym (ap isInput e)))
+inputs-rise (Gate p ∷ ns) e = inputs-from-rise 0 1 ns (omega arith)
