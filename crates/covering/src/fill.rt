@@ -28,9 +28,9 @@ fn put_inputs(nodes: &[Node], cover: &mut Cover)
     requires bare { ⌜ netlistOf (now cover) ≡ emptyNetlist ⌝ }
     ensures { λ _. ⌜ netlistOf (now (cover .exit)) ≡ netlist (inputsOf (now (nodes .entry))) [] [] ⌝ }
 {
-    for v in 0..nodes.len() {
-        if nodes[v].is_input() {
-            cover.push_input(v as u8);
+    for number in 0..nodes.len() {
+        if nodes[number].is_input() {
+            cover.push_input(number as u8);
         }
     }
 }

@@ -1,6 +1,7 @@
 use mathlib.Core.Path.{_≡_, sym, ap, subst, _∙_}
 use mathlib.Core.Bool.{true}
 use native.Mathlib.Omega.{arith}
+use borrow.Author.Needs.{needs}
 use lib.ListN.{length}
 use Rattle.drawing.specs.Drawing.{mostLeaves}
 use Rattle.drawing.specs.Sets.{every}
@@ -26,7 +27,7 @@ reached-by-marks-requires g c κs =
 pub put-inputs-requires : need.put-inputs-requires
 put-inputs-requires g c κs =
     let w = lawful-says (c .args .nodes .now) (c .args .outputs .now) (c .pre .law) in
-    record { right = w .nodes-sound; few = w .nodes-few; bare = c .clear .ensures }
+    record { right = w .nodes-sound; few = w .nodes-few; bare = search needs }
 
 pub put-cells-requires : need.put-cells-requires
 put-cells-requires g c κs =

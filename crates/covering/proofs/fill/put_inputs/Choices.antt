@@ -7,5 +7,5 @@ use Rattle.cells.specs.Netlists.{netlistOf}
 use Rattle.covering.proofs.fill.put_inputs.Given as given
 
 -- the inputs so far
-abbrev pub Inv-loop-v : given.InvT-loop-v
-Inv-loop-v l = netlistOf (l .cover) ≡ netlist (inputsOf (take (l .v) (l .nodes))) [] []
+abbrev pub Inv-loop-number : given.InvT-loop-number
+Inv-loop-number l = netlistOf (l .cover) ≡ netlist (inputsOf (take (l .number) (l .nodes))) [] []
