@@ -17,7 +17,7 @@ use Rattle.drawing.specs.Reach.{depends, reach, reachOut, needed}
 use Rattle.family.specs.Family.{Delay, Laws, latest, cellArrival}
 use Rattle.choice.specs.Choice.{smaller, rather, takenFrom, taken, best, takenCut}
 use Rattle.choice.specs.Rivals.{Outputs-first, Needed-suffice}
-use Rattle.drawing.proofs.Members.{in-mem, elem-in, in-elem, some-in, in-some}
+use Rattle.drawing.proofs.Members.{in-mem, elem-in, in-elem, some-in, in-some, map-same}
 use Rattle.drawing.proofs.Sound.{fanins-below}
 use Rattle.cuts.proofs.LeastCuts.{list-in}
 use Rattle.cuts.proofs.Leaves.{leaves-depend}
@@ -25,10 +25,6 @@ use Rattle.drawing.proofs.ReachLaws.{reach-trans}
 use Rattle.choice.proofs.Taken.{taken-in, taken-same}
 use Rattle.choice.proofs.Optimal.{best-plain, best-gate, best-is-first}
 use Rattle.choice.proofs.OwnCover.{own-arrivals, gate-range, list-some}
-
-map-same : {X Y : Type 0} (f g : X → Y) (xs : List X) → ((a : X) → In a xs → f a ≡ g a) → map f xs ≡ map g xs
-map-same f g [] h = refl
-map-same f g (x ∷ xs) h = let a = h x (inl refl) in let b = map-same f g xs (λ y m. h y (inr m)) in cc
 
 some-length : {X : Type 0} (a : X) (xs : List X) → In a xs → 0 < length xs
 some-length a [] m = elim m [ ]

@@ -1,4 +1,4 @@
--- The inputs of a drawing: what has a number among theirs is an input, and their numbers rise.
+-- The inputs of a drawing: what has a number among theirs is an input and the other way round, and their numbers rise.
 use Prim.Native.Nat.{ℕ, zero, suc, _+_, _≤_, _<_}
 use mathlib.Core.Path.{_≡_, refl, sym, ap, subst, _∙_}
 use mathlib.Core.Logic.{_⊎_, inl, inr, ⊎-elim}
@@ -8,11 +8,11 @@ use native.Mathlib.Nat.{zero-add}
 use native.Mathlib.Omega.{arith}
 use lib.Dec.{eqb, ltb}
 use lib.ListN.{length, getD}
-use Rattle.std.proofs.shelf.Tests.{and-from, both-ways, cases-bool, lt-ltb, eqb-true, or-cases}
+use Rattle.std.proofs.shelf.Tests.{and-from, both-ways, cases-bool, lt-ltb, eqb-true, eq-eqb, or-cases, or-left, or-right}
 use Rattle.drawing.specs.declared.node.Node.{Node}
 use Rattle.drawing.specs.declared.node.Node.the-variants.{Constant, Input, Gate}
 use Rattle.drawing.specs.Sets.{mem, rises, below}
-use Rattle.drawing.specs.Drawing.{at, isInput, isGate, sound}
+use Rattle.drawing.specs.Drawing.{at, isInput, isGate}
 use Rattle.drawing.specs.Values.{inputsFrom, inputsOf}
 use Rattle.drawing.proofs.SetLaws.{mem-cases, rises-weaker}
 
@@ -36,6 +36,18 @@ input-from i (Input ∷ ns) (suc k) n e h =
 
 pub input-at : (nodes : List Node) (n : ℕ) → mem n (inputsOf nodes) ≡ true → at nodes n ≡ Input
 input-at nodes n h = input-from 0 nodes n n (sym (zero-add n)) h
+
+listed-from : (i : ℕ) (ns : List Node) (k n : ℕ) → n ≡ i + k → getD ns k Constant ≡ Input → mem n (inputsFrom i ns) ≡ true
+listed-from i [] k n e h = absurd (both-ways _ (sym (ap isInput h)) refl)
+listed-from i (Constant ∷ ns) zero n e h = absurd (both-ways false refl (ap isInput h))
+listed-from i (Gate p ∷ ns) zero n e h = absurd (both-ways false refl (ap isInput h))
+listed-from i (Input ∷ ns) zero n e h = or-left _ _ (eq-eqb n i (omega arith))
+listed-from i (Constant ∷ ns) (suc k) n e h = listed-from (suc i) ns k n (omega arith) h
+listed-from i (Gate p ∷ ns) (suc k) n e h = listed-from (suc i) ns k n (omega arith) h
+listed-from i (Input ∷ ns) (suc k) n e h = or-right (eqb n i) _ (listed-from (suc i) ns k n (omega arith) h)
+
+pub input-listed : (nodes : List Node) (n : ℕ) → at nodes n ≡ Input → mem n (inputsOf nodes) ≡ true
+input-listed nodes n h = listed-from 0 nodes n n (sym (zero-add n)) h
 
 -- a gate's number is not among them
 pub gate-no-input : (nodes : List Node) (n : ℕ) → isGate (at nodes n) ≡ true → mem n (inputsOf nodes) ≡ false
@@ -68,3 +80,16 @@ length-inputs i [] = omega arith
 length-inputs i (Constant ∷ ns) = omega (arith, length-inputs (suc i) ns)
 length-inputs i (Gate p ∷ ns) = omega (arith, length-inputs (suc i) ns)
 length-inputs i (Input ∷ ns) = omega (arith, length-inputs (suc i) ns)
+
+inputs-from-rise : (m i : ℕ) (ns : List Node) → m < i → rises m (inputsFrom i ns) ≡ true
+inputs-from-rise m i [] l = refl
+inputs-from-rise m i (Constant ∷ ns) l = inputs-from-rise m (suc i) ns (omega arith)
+inputs-from-rise m i (Gate p ∷ ns) l = inputs-from-rise m (suc i) ns (omega arith)
+inputs-from-rise m i (Input ∷ ns) l = and-from _ _ (lt-ltb m i l) (inputs-from-rise i (suc i) ns (omega arith))
+
+-- they rise from 1 or more where node 0 is the constant
+pub inputs-rise : (nodes : List Node) → at nodes 0 ≡ Constant → rises 0 (inputsOf nodes) ≡ true
+inputs-rise [] e = refl
+inputs-rise (Constant ∷ ns) e = inputs-from-rise 0 1 ns (omega arith)
+inputs-rise (Input ∷ ns) e = absurd (both-ways false refl (sym (ap isInput e)))
+inputs-rise (Gate p ∷ ns) e = inputs-from-rise 0 1 ns (omega arith)

@@ -36,3 +36,11 @@ below-wider m n [] l b = refl
 below-wider m n (x ∷ xs) l b =
     let p = and-parts (ltb x m) (below m xs) b in
     and-from (ltb x n) _ (lt-ltb x n (omega (arith, ltb-true x m (p .0)))) (below-wider m n xs l (p .1))
+
+-- there are fewer numbers that rise between two bounds than the bounds leave room for
+pub rises-few : (n m : ℕ) (xs : List ℕ) → n < m → rises n xs ≡ true → below m xs ≡ true → n + length xs < m
+rises-few n m [] l r b = omega arith
+rises-few n m (x ∷ xs) l r b =
+    let p = and-parts (ltb n x) (rises x xs) r in
+    let q = and-parts (ltb x m) (below m xs) b in
+    omega (arith, ltb-true n x (p .0), rises-few x m xs (ltb-true x m (q .0)) (p .1) (q .1))

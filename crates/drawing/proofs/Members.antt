@@ -111,6 +111,17 @@ some-same p q (x ∷ xs) h =
     let f = some-same p q xs (λ a m. h a (inr m)) in
     cc
 
+pub keep-same : {X : Type 0} (p q : X → Bool) (xs : List X) → ((a : X) → In a xs → p a ≡ q a) → keep p xs ≡ keep q xs
+keep-same p q [] h = refl
+keep-same p q (x ∷ xs) h =
+    let e = h x (inl refl) in
+    let f = keep-same p q xs (λ a m. h a (inr m)) in
+    cc
+
+pub map-same : {X Y : Type 0} (f g : X → Y) (xs : List X) → ((a : X) → In a xs → f a ≡ g a) → map f xs ≡ map g xs
+map-same f g [] h = refl
+map-same f g (x ∷ xs) h = let a = h x (inl refl) in let b = map-same f g xs (λ y m. h y (inr m)) in cc
+
 pub in-counting : (a n v : ℕ) → a ≤ v → v < a + n → In v (counting a n)
 in-counting a zero v l h = absurd (omega arith)
 in-counting a (suc n) v l h =

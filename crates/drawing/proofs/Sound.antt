@@ -2,13 +2,13 @@
 use Prim.Native.Nat.{ℕ, zero, suc, _+_, _≤_, _<_}
 use mathlib.Core.Path.{_≡_, refl, sym, ap, subst, _∙_}
 use mathlib.Core.Logic.{_⊎_, inl, inr, ⊎-elim, _≢_}
-use mathlib.Core.Bool.{Bool, true, false, cond, not, _&&_, _||_}
+use mathlib.Core.Bool.{Bool, true, false, cond, not, _&&_, _||_, Bool·beq}
 use mathlib.Core.List.{List, [], _∷_, _++_, map}
 use native.Mathlib.Omega.{arith}
 use lib.Dec.{eqb, ltb}
 use lib.ListN.{length, getD, set}
 use Rattle.std.specs.Iters.{counting}
-use Rattle.std.proofs.shelf.Tests.{and-parts, and-from, both-ways, ltb-true, lt-ltb, cases-eq, cases-lt, ne-eqb}
+use Rattle.std.proofs.shelf.Tests.{and-parts, and-from, both-ways, ltb-true, lt-ltb, cases-eq, cases-lt, ne-eqb, eq-eqb}
 use Rattle.std.proofs.shelf.Lists.{getD-set-same, getD-set-other, length-set, getD-append-left, getD-push, length-push, getD-past}
 use Rattle.drawing.specs.declared.node.Pair.{Pair}
 use Rattle.drawing.specs.declared.node.Node.{Node}
@@ -76,3 +76,22 @@ input-right nodes d =
 pub gate-range : (nodes : List Node) (v : ℕ) → isGate (at nodes v) ≡ true → v < length nodes
 gate-range nodes v g =
     ⊎-elim (λ l. l) (λ l. absurd (both-ways _ (ap isGate (getD-past nodes v Constant l)) g)) (cases-lt v (length nodes))
+
+-- a gate stands above node 0
+pub gate-positive : (nodes : List Node) (v : ℕ) → sound nodes ≡ true → isGate (at nodes v) ≡ true → 0 < v
+gate-positive nodes v d g =
+    let p = gate-of (at nodes v) g in
+    let h : soundAt v (Gate (p .0)) ≡ true = subst (λ n. soundAt v n ≡ true) (p .1) (sound-at nodes v d (gate-range nodes v g)) in
+    ⊎-elim
+    (λ (e : v ≡ 0). absurd (both-ways false refl (subst (λ b. Bool·beq false b ≡ true) (eq-eqb v 0 e) (and-parts _ _ h .0))))
+    (λ (e : v ≢ 0). omega arith)
+    (cases-eq v 0)
+
+-- what stands above node 0 is an input or a gate
+kind-at : (v : ℕ) (n : Node) → 0 < v → soundAt v n ≡ true → (n ≡ Input) ⊎ (isGate n ≡ true)
+kind-at v Constant l h = absurd (both-ways false refl (subst (λ b. Bool·beq true b ≡ true) (ne-eqb v 0 (omega arith)) (and-parts _ _ h .0)))
+kind-at v Input l h = inl refl
+kind-at v (Gate p) l h = inr refl
+
+pub kind-above : (nodes : List Node) (v : ℕ) → sound nodes ≡ true → v < length nodes → 0 < v → (at nodes v ≡ Input) ⊎ (isGate (at nodes v) ≡ true)
+kind-above nodes v d l p = kind-at v (at nodes v) p (sound-at nodes v d l)

@@ -1,0 +1,5 @@
+pub mod RivalCover
+pub mod RivalTimes
+pub mod ChosenCover
+pub mod Passes
+pub mod Filled

@@ -1,0 +1,3 @@
+pub mod Chosen
+pub mod Times
+pub mod Claims
