@@ -3,8 +3,8 @@ use Prim.Native.Nat.{ℕ, zero, suc, _+_, _-_, _/_, _%_, _^_, _≤_, _<_}
 use mathlib.Core.Path.{_≡_, refl, sym, ap, subst, _∙_}
 use mathlib.Core.Bool.{false, cond}
 use mathlib.Core.List.{List, [], _∷_, _++_, map}
-use native.Mathlib.Nat.{zero-add, add-zero, add-suc, suc-add, div-one}
-use native.Mathlib.Numerals.{add-one, one-add}
+use native.Mathlib.Nat.{zero-add, add-zero, div-one}
+use native.Mathlib.Numerals.{add-one}
 use native.Mathlib.Omega.{arith}
 use lib.Chars.{codes}
 use lib.Dec.{eqb}
@@ -23,7 +23,7 @@ use Rattle.cells.specs.Netlist.{Netlist}
 use Rattle.blif.specs.Text.{nodeName, outputName, spaced, nodeNames, outputNames, headText, leafDigits, line, onRows, cellText, outputText, outputTexts, texts}
 use Rattle.blif.specs.Sections.{sectionCount, sectionText}
 
-spaced-push : (names : List (List ℕ)) (word : List ℕ) → spaced names ++ (32 ∷ word) ≡ spaced (names ++ word ∷ [])
+pub spaced-push : (names : List (List ℕ)) (word : List ℕ) → spaced names ++ (32 ∷ word) ≡ spaced (names ++ word ∷ [])
 spaced-push names word = joined-more (λ w. 32 ∷ w) [] names word
 
 pub node-names-more : (ns : List ℕ) (i : ℕ) → i < length ns → nodeNames (take i ns) ++ (32 ∷ nodeName (getD ns i 0)) ≡ nodeNames (take (i + 1) ns)
@@ -64,12 +64,14 @@ lines-without t n m h =
 -- the sections by their numbers
 length-outputs : (k : ℕ) (os : List ℕ) → length (outputTexts k os) ≡ length os
 length-outputs k [] = refl
-length-outputs k (o ∷ os) = ap suc (length-outputs (suc k) os)
+length-outputs k (o ∷ os) = ap suc (length-outputs (k + 1) os)
 
 output-at : (k : ℕ) (os : List ℕ) (j : ℕ) → j < length os → getD (outputTexts k os) j [] ≡ outputText (k + j) (getD os j 0)
 output-at k [] j h = absurd (omega arith)
 output-at k (o ∷ os) zero h = ap (λ i. outputText i o) (sym (add-zero k))
-output-at k (o ∷ os) (suc j) h = output-at (suc k) os j (omega arith) ∙ ap (λ i. outputText i (getD os j 0)) (suc-add k j ∙ sym (add-suc k j))
+output-at k (o ∷ os) (suc j) h =
+    let e : (k + 1) + j ≡ k + suc j = omega arith in
+    output-at (k + 1) os j (omega arith) ∙ ap (λ i. outputText i (getD os j 0)) e
 
 module _ (n : Netlist) where
   abbrev behind : List (List ℕ)
