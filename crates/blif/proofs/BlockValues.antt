@@ -10,7 +10,6 @@ use lib.Chars.{codes}
 use lib.Dec.{eqb}
 use lib.ListN.{length, getD}
 use Rattle.std.specs.Iters.{counting}
-use Rattle.std.proofs.shelf.Bits.{mod-below}
 use Rattle.std.proofs.shelf.Lists.{append-nil}
 use Rattle.std.proofs.shelf.Tests.{and-parts, and-from, or-cases, or-left, or-right, cond-true, cond-false, cond-both, eqb-true, eqb-false, eq-eqb, ne-eqb, cases-bool, cases-eq, both-ways}
 use Rattle.drawing.specs.Sets.{some, keep, same, In}
@@ -19,6 +18,7 @@ use Rattle.drawing.proofs.Members.{some-in, in-some, in-keep, keep-in, in-count
 use Rattle.drawing.proofs.Scans.{some-map}
 use Rattle.cells.specs.Truth.{bit}
 use Rattle.cells.proofs.Packed.{pow-one}
+use Rattle.cells.proofs.Words.{bit-small}
 use Rattle.blif.specs.Text.{leafDigits, onRows}
 use Rattle.blif.specs.Reading.{stands, fits, gives}
 use Rattle.blif.proofs.Read.{rowWords}
@@ -68,9 +68,6 @@ gives-row (suc n) m vs =
 zero-or-one : (b : ℕ) → b ≤ 1 → (b ≡ 1 → ⊥) → 0 ≡ b
 zero-or-one zero h k = refl
 zero-or-one (suc b) h k = let e : b ≡ 0 = omega arith in absurd (k (ap suc e))
-
-pub bit-small : (t m : ℕ) → bit t m ≤ 1
-bit-small t m = omega (arith, mod-below (t / 2 ^ m) 2)
 
 -- the rows of a table give the bit of the values' row
 module _ (t : ℕ) (vs : List ℕ) (b : Binary vs) where

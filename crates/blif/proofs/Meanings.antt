@@ -8,7 +8,6 @@ use native.Mathlib.Omega.{arith}
 use lib.Dec.{eqb, ltb}
 use lib.ListN.{length, getD}
 use Rattle.std.specs.Iters.{counting}
-use Rattle.std.proofs.shelf.Bits.{mod-below}
 use Rattle.std.proofs.shelf.Lists.{length-map}
 use Rattle.std.proofs.shelf.Tests.{and-parts, or-cases, cond-true, cond-false, cond-both, eqb-true, eq-eqb, ne-eqb, cases-bool, cases-eq, both-ways, ltb-true}
 use Rattle.drawing.specs.Sets.{every, mem, rises, In}
@@ -20,12 +19,13 @@ use Rattle.cells.specs.declared.cell.Cell.{Cell}
 use Rattle.cells.specs.Truth.{bit}
 use Rattle.cells.specs.Netlist.{Netlist, leavesOf, plain, rootName, rowOf, cellValue, look, after, settled, outputValue, answers}
 use Rattle.cells.specs.Laws.{known, cellLawful, namesAfter, cellsLawful, outputLawful, rootsOf, namesOf, numbered, lawfulCover}
+use Rattle.cells.proofs.Words.{bit-small}
 use Rattle.cells.proofs.Laws.{cell-says, cover-says}
 use Rattle.blif.specs.Text.{nodeName, outputName, onRows}
 use Rattle.blif.specs.Reading.{Block, Model, readModel, gives, blockValue}
 use Rattle.blif.specs.Meaning.{wholeText, Satisfies, Means}
 use Rattle.blif.proofs.Read.{rowWords, cellBlock, outputBlockBy, outputBlock, outputBlocks, read-whole}
-use Rattle.blif.proofs.BlockValues.{rowNumber, bit-small, table-value, constant-value, copy-value}
+use Rattle.blif.proofs.BlockValues.{rowNumber, table-value, constant-value, copy-value}
 
 module _ (value : List ℕ → ℕ) where
   -- the environment has the value of each name

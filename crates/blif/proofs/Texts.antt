@@ -3,7 +3,7 @@ use Prim.Native.Nat.{ℕ, zero, suc, _+_, _-_, _/_, _%_, _^_, _≤_, _<_}
 use mathlib.Core.Path.{_≡_, refl, sym, ap, subst, _∙_}
 use mathlib.Core.Bool.{false, cond}
 use mathlib.Core.List.{List, [], _∷_, _++_, map}
-use native.Mathlib.Nat.{zero-add, add-zero, div-one}
+use native.Mathlib.Nat.{zero-add, add-zero}
 use native.Mathlib.Numerals.{add-one}
 use native.Mathlib.Omega.{arith}
 use lib.Chars.{codes}
@@ -11,7 +11,6 @@ use lib.Dec.{eqb}
 use lib.ListN.{length, getD, take}
 use Rattle.std.specs.Iters.{counting}
 use Rattle.std.specs.shelf.Lists.{joined}
-use Rattle.std.proofs.shelf.Bits.{shr-shr}
 use Rattle.std.proofs.shelf.Counted.{map-counting-more}
 use Rattle.std.proofs.shelf.Elements.{kept-by-append}
 use Rattle.std.proofs.shelf.Lists.{map-id, map-more, joined-more, length-append, length-map, getD-map, getD-append-left, getD-append-right, getD-at, append-nil}
@@ -20,6 +19,7 @@ use Rattle.drawing.specs.Sets.{keep}
 use Rattle.cells.specs.declared.cell.Cell.{Cell}
 use Rattle.cells.specs.Truth.{bit}
 use Rattle.cells.specs.Netlist.{Netlist}
+use Rattle.cells.proofs.Words.{bit-first, bit-half}
 use Rattle.blif.specs.Text.{nodeName, outputName, spaced, nodeNames, outputNames, headText, leafDigits, line, onRows, cellText, outputText, outputTexts, texts}
 use Rattle.blif.specs.Sections.{sectionCount, sectionText}
 
@@ -32,11 +32,8 @@ node-names-more ns i h = spaced-push (map nodeName (take i ns)) (nodeName (getD 
 pub output-names-more : (k : ℕ) → outputNames k ++ (32 ∷ outputName k) ≡ outputNames (k + 1)
 output-names-more k = spaced-push (map outputName (counting 0 k)) (outputName k) ∙ ap spaced (sym (map-counting-more outputName 0 k k (zero-add k)))
 
-bit-half : (m n : ℕ) → bit (m / 2) n ≡ bit m (suc n)
-bit-half m n = let e : 1 + n ≡ suc n = omega arith in ap (λ x. x % 2) (shr-shr m 1 n ∙ ap (λ k. m / 2 ^ k) e)
-
 digits-suc : (m n : ℕ) → leafDigits m (suc n) ≡ leafDigits m n ++ (48 + bit m n) ∷ []
-digits-suc m zero = ap (λ x. (48 + x % 2) ∷ []) (sym (div-one m))
+digits-suc m zero = ap (λ x. (48 + x) ∷ []) (sym (bit-first m))
 digits-suc m (suc n) =
     ap (λ xs. (48 + m % 2) ∷ xs) (digits-suc (m / 2) n) ∙ ap (λ x. (48 + m % 2) ∷ (leafDigits (m / 2) n ++ (48 + x) ∷ [])) (bit-half m n)
 
