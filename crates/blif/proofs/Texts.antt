@@ -3,15 +3,14 @@ use Prim.Native.Nat.{ℕ, zero, suc, _+_, _-_, _/_, _%_, _^_, _≤_, _<_}
 use mathlib.Core.Path.{_≡_, refl, sym, ap, subst, _∙_}
 use mathlib.Core.Bool.{false, cond}
 use mathlib.Core.List.{List, [], _∷_, _++_, map}
-use native.Mathlib.Nat.{zero-add, add-zero, add-suc, suc-add, div-one}
-use native.Mathlib.Numerals.{add-one, one-add}
+use native.Mathlib.Nat.{zero-add, add-zero}
+use native.Mathlib.Numerals.{add-one}
 use native.Mathlib.Omega.{arith}
 use lib.Chars.{codes}
 use lib.Dec.{eqb}
 use lib.ListN.{length, getD, take}
 use Rattle.std.specs.Iters.{counting}
 use Rattle.std.specs.shelf.Lists.{joined}
-use Rattle.std.proofs.shelf.Bits.{shr-shr}
 use Rattle.std.proofs.shelf.Counted.{map-counting-more}
 use Rattle.std.proofs.shelf.Elements.{kept-by-append}
 use Rattle.std.proofs.shelf.Lists.{map-id, map-more, joined-more, length-append, length-map, getD-map, getD-append-left, getD-append-right, getD-at, append-nil}
@@ -20,10 +19,11 @@ use Rattle.drawing.specs.Sets.{keep}
 use Rattle.cells.specs.declared.cell.Cell.{Cell}
 use Rattle.cells.specs.Truth.{bit}
 use Rattle.cells.specs.Netlist.{Netlist}
+use Rattle.cells.proofs.Words.{bit-first, bit-half}
 use Rattle.blif.specs.Text.{nodeName, outputName, spaced, nodeNames, outputNames, headText, leafDigits, line, onRows, cellText, outputText, outputTexts, texts}
 use Rattle.blif.specs.Sections.{sectionCount, sectionText}
 
-spaced-push : (names : List (List ℕ)) (word : List ℕ) → spaced names ++ (32 ∷ word) ≡ spaced (names ++ word ∷ [])
+pub spaced-push : (names : List (List ℕ)) (word : List ℕ) → spaced names ++ (32 ∷ word) ≡ spaced (names ++ word ∷ [])
 spaced-push names word = joined-more (λ w. 32 ∷ w) [] names word
 
 pub node-names-more : (ns : List ℕ) (i : ℕ) → i < length ns → nodeNames (take i ns) ++ (32 ∷ nodeName (getD ns i 0)) ≡ nodeNames (take (i + 1) ns)
@@ -32,11 +32,8 @@ node-names-more ns i h = spaced-push (map nodeName (take i ns)) (nodeName (getD 
 pub output-names-more : (k : ℕ) → outputNames k ++ (32 ∷ outputName k) ≡ outputNames (k + 1)
 output-names-more k = spaced-push (map outputName (counting 0 k)) (outputName k) ∙ ap spaced (sym (map-counting-more outputName 0 k k (zero-add k)))
 
-bit-half : (m n : ℕ) → bit (m / 2) n ≡ bit m (suc n)
-bit-half m n = let e : 1 + n ≡ suc n = omega arith in ap (λ x. x % 2) (shr-shr m 1 n ∙ ap (λ k. m / 2 ^ k) e)
-
 digits-suc : (m n : ℕ) → leafDigits m (suc n) ≡ leafDigits m n ++ (48 + bit m n) ∷ []
-digits-suc m zero = ap (λ x. (48 + x % 2) ∷ []) (sym (div-one m))
+digits-suc m zero = ap (λ x. (48 + x) ∷ []) (sym (bit-first m))
 digits-suc m (suc n) =
     ap (λ xs. (48 + m % 2) ∷ xs) (digits-suc (m / 2) n) ∙ ap (λ x. (48 + m % 2) ∷ (leafDigits (m / 2) n ++ (48 + x) ∷ [])) (bit-half m n)
 
@@ -64,12 +61,14 @@ lines-without t n m h =
 -- the sections by their numbers
 length-outputs : (k : ℕ) (os : List ℕ) → length (outputTexts k os) ≡ length os
 length-outputs k [] = refl
-length-outputs k (o ∷ os) = ap suc (length-outputs (suc k) os)
+length-outputs k (o ∷ os) = ap suc (length-outputs (k + 1) os)
 
 output-at : (k : ℕ) (os : List ℕ) (j : ℕ) → j < length os → getD (outputTexts k os) j [] ≡ outputText (k + j) (getD os j 0)
 output-at k [] j h = absurd (omega arith)
 output-at k (o ∷ os) zero h = ap (λ i. outputText i o) (sym (add-zero k))
-output-at k (o ∷ os) (suc j) h = output-at (suc k) os j (omega arith) ∙ ap (λ i. outputText i (getD os j 0)) (suc-add k j ∙ sym (add-suc k j))
+output-at k (o ∷ os) (suc j) h =
+    let e : (k + 1) + j ≡ k + suc j = omega arith in
+    output-at (k + 1) os j (omega arith) ∙ ap (λ i. outputText i (getD os j 0)) e
 
 module _ (n : Netlist) where
   abbrev behind : List (List ℕ)

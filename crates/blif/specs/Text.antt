@@ -64,7 +64,7 @@ tableLines t n = joined (line n) (onRows t (2 ^ n))
 
 abbrev pub cellText : Cell → List ℕ
 cellText c =
-    codes ".names" ++ nodeNames (leavesOf c) ++ (32 ∷ nodeName (c .root)) ++ codes "\n" ++ tableLines (c .table) (c .count)
+    codes ".names" ++ nodeNames (leavesOf c) ++ (32 ∷ nodeName (c .root)) ++ codes "\n" ++ tableLines (c .table) (length (leavesOf c))
 
 -- output k, of the literal l: a constant, a copy of a node, or its inverse
 abbrev pub outputText : ℕ → ℕ → List ℕ
@@ -75,7 +75,7 @@ outputText k l =
 -- the outputs from place k on
 abbrev pub outputTexts : ℕ → List ℕ → List (List ℕ)
 outputTexts k [] = []
-outputTexts k (l ∷ ls) = outputText k l ∷ outputTexts (suc k) ls
+outputTexts k (l ∷ ls) = outputText k l ∷ outputTexts (k + 1) ls
 
 -- the sections: the head, each cell, each output, the end
 abbrev pub texts : Netlist → List (List ℕ)

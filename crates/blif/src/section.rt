@@ -7,6 +7,7 @@ use cells::cell::Cell;
 use cells::cover::Cover;
 use drawing::refusal::Refusal;
 ghost use Prim.Native.Nat.{_*_, _+_, _<_, _≤_, _^_};
+ghost use Rattle.blif.specs.Meaning.{Means};
 ghost use Rattle.blif.specs.Put.{Wrote};
 ghost use Rattle.blif.specs.Sections.{sectionAnswer, sectionCount, sectionText, sectionWrites};
 ghost use Rattle.blif.specs.Text.{cellText, headText, leafDigits, line, nodeNames, outputNames, outputText, tableLines};
@@ -90,16 +91,16 @@ fn put_table(out: &mut [u8], at: usize, table: u32, count: usize) -> usize
 
 /// A cell.
 fn put_cell(out: &mut [u8], at: usize, cell: Cell) -> usize
-    requires room { ⌜ at + 512 < 2 ^ 64 ⌝ }
-    requires few { ⌜ cell .count ≤ mostLeaves ⌝ }
+    requires { ⌜ at + 512 < 2 ^ 64 ⌝ }
     ensures wrote { λ r. ⌜ Wrote (now (out .entry)) at (cellText cell) (now (out .exit)) r ⌝ }
     ensures near { λ r. ⌜ r ≤ at + 512 ⌝ }
 {
-    let leaves = put_text(out, at, b".names");
-    let root = put_nodes(out, leaves, cell.leaves());
+    let leaves = cell.leaves();
+    let names = put_text(out, at, b".names");
+    let root = put_nodes(out, names, leaves);
     let end = put_name(out, root, b'n', cell.root as u16);
     let lines = put_text(out, end, b"\n");
-    put_table(out, lines, cell.table, cell.count as usize)
+    put_table(out, lines, cell.table, leaves.len())
 }
 
 /// Output `k`, of this literal.
@@ -144,8 +145,12 @@ fn put_head(out: &mut [u8], at: usize, inputs: &[u8], outputs: usize) -> usize
 }
 
 /// How many sections the cell list of a cover has: the head, each cell, each output, the end.
+///
+/// Read as BLIF, all of them together mean the cover: whatever values of the names satisfy every block
+/// of the text, the outputs have what the cover answers to the inputs.
 pub fn sections(cover: &Cover) -> usize
-    ensures { λ r. ⌜ r ≡ sectionCount (netlistOf (now (cover .entry))) ⌝ }
+    ensures count { λ r. ⌜ r ≡ sectionCount (netlistOf (now (cover .entry))) ⌝ }
+    ensures means { λ _. ⌜ Means (netlistOf (now (cover .entry))) ⌝ }
 {
     2 + cover.cells().len() + cover.outputs().len()
 }

@@ -3,32 +3,26 @@ use mathlib.Core.Bool.{true}
 use mathlib.Core.List.{List, []}
 use Prim.Native.Nat.{ℕ, _+_, _-_, _<_, _≤_}
 use native.Mathlib.Omega.{arith}
-use lib.Dec.{leb, ltb}
+use lib.Dec.{ltb}
 use lib.ListN.{length, getD, length-take}
 use Rattle.std.proofs.shelf.Lists.{length-take-le}
-use Rattle.std.proofs.shelf.Tests.{leb-true, ltb-true}
+use Rattle.std.proofs.shelf.Tests.{ltb-true}
 use Rattle.drawing.specs.Sets.{every}
 use Rattle.drawing.specs.Drawing.{nodeOf, mostNodes}
 use Rattle.drawing.proofs.Lists.{every-at}
 use Rattle.cells.specs.declared.cell.Cell.{Cell}
 use Rattle.cells.specs.declared.cover.Cover.{Cover}
+<<<<<<< HEAD
 use Rattle.drawing.specs.Drawing.{mostLeaves}
+=======
+>>>>>>> cells
 use Rattle.cells.specs.Netlist.{Netlist}
 use Rattle.cells.specs.Netlists.{netlistOf}
-use Rattle.cells.proofs.Laws.{cover-few, cover-outputs}
+use Rattle.cells.proofs.Laws.{cover-outputs}
 use Rattle.blif.specs.Text.{cellText, outputText, headText}
 use Rattle.blif.proofs.Wrote.{wrote-is}
 use Rattle.blif.proofs.Texts.{section-count, section-cell, section-output, section-end}
 use Rattle.blif.proofs.section.put_section.Needs as need
-
-pub put-cell-requires : need.put-cell-requires
-put-cell-requires c κs =
-    let s : Cover = c .args .cover .now in
-    let few = ap (every (λ x. leb (x .count) mostLeaves)) (c .cells-cells .ensures) ∙ cover-few (netlistOf s) (s .law) in
-    record {
-      room = omega arith;
-      few = leb-true _ mostLeaves (every-at (λ x. leb (x .count) mostLeaves) (c .cells-cells .result .now) (c .args .section - 1) _ few (omega arith));
-    }
 
 pub put-output-requires : need.put-output-requires
 put-output-requires c κs =

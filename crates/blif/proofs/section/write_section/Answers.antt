@@ -23,7 +23,7 @@ returns c =
     let r : c .put-section .result ≡ length text = c .put-section .ensures .next ∙ zero-add (length text) in
     let l : c .put-section-length .result ≡ length text = c .put-section-length .ensures .next ∙ zero-add (length text) in
     let h : length text ≤ length out = omega arith in
-    let below : i < sectionCount n = subst (λ (x : ℕ). i < x) (c .sections .ensures) (c .if-section-sections .left) in
+    let below : i < sectionCount n = subst (λ (x : ℕ). i < x) (c .sections .ensures .count) (c .if-section-sections .left) in
     let a : sectionAnswer n i out ≡ Ok (length text) =
     cond-true (ltb i (sectionCount n)) _ _ (lt-ltb i (sectionCount n) below) ∙ cond-true (leb (length text) (length out)) _ _ (le-leb (length text) (length out) h) in
     record {
