@@ -1,7 +1,7 @@
 pub mod Limits
 pub mod Cuts
 pub mod Antichain
-pub mod Claims
 pub mod Leaves
 pub mod Merging
 pub mod Lists
+pub mod Claims

@@ -9,10 +9,13 @@ ghost use lib.ListN.{length, take};
 ghost use mathlib.Core.Bool.{true};
 ghost use mathlib.Core.Path.{_≡_};
 
-/// A cut of at most five leaves: the first `len` of the array, which rise from above 0.
+/// The most leaves that a cut has.
+pub const MOST_LEAVES: usize = 5;
+
+/// A cut: its leaves are the first `len` of the array, and rise from above 0.
 #[derive(Clone, Copy)]
 pub struct Cut {
-    leaves: [u8; 5],
+    leaves: [u8; MOST_LEAVES],
     len: u8,
     ghost room: { length leaves ≡ mostLeaves },
     ghost few: { len ≤ mostLeaves },

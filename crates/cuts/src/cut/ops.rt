@@ -1,92 +1,62 @@
 //! Making cuts, reading them, and joining two.
 
 use super::Cut;
+use super::MOST_LEAVES;
 ghost use Prim.Native.Nat.{_<_, _≤_};
 ghost use Rattle.cuts.specs.Leaves.{leavesOf};
 ghost use Rattle.cuts.specs.Limits.{mostLeaves};
 ghost use Rattle.cuts.specs.Merging.{Stepped};
-ghost use Rattle.drawing.specs.Sets.{mem, rises, sub, union};
+ghost use Rattle.drawing.specs.Sets.{rises, sub, union};
 ghost use Rattle.std.specs.Options.{Cases as BySome};
 ghost use lib.ListN.{drop, length};
 ghost use mathlib.Core.Bool.{true};
 ghost use mathlib.Core.List.{[], _∷_};
 ghost use mathlib.Core.Path.{_≡_};
 
-/// The most leaves that a cut has.
-pub const MOST_LEAVES: usize = 5;
-
-/// Whether the leaf is among those.
-fn contains(leaves: &[u8], leaf: u8) -> bool
-    ensures { λ r. ⌜ r ≡ mem leaf (now (leaves .entry)) ⌝ }
-{
-    for other in leaves {
-        if *other == leaf {
-            return true;
-        }
-    }
-    false
-}
-
 /// Whether each of the leaves is among the others.
 fn subset(leaves: &[u8], others: &[u8]) -> bool
+    requires rising { ⌜ (rises 0 (now leaves) ≡ true) × (rises 0 (now others) ≡ true) ⌝ }
     ensures { λ r. ⌜ r ≡ sub (now (leaves .entry)) (now (others .entry)) ⌝ }
 {
-    for leaf in leaves {
-        if !contains(others, *leaf) {
+    let mut found = 0;
+    for other in others {
+        if found == leaves.len() {
+            return true;
+        }
+        if leaves[found] < *other {
             return false;
         }
+        if leaves[found] == *other {
+            found += 1;
+        }
     }
-    true
+    found == leaves.len()
 }
 
-/// A step of a merge: the leaf that comes next, and how far that goes on the left and on the right.
+/// A step of a merge: the leaf that comes next, and the places behind it on the left and on the right.
 #[derive(Clone, Copy)]
-struct Step {
-    leaf: u8,
-    left: usize,
-    right: usize,
-}
+struct Step(u8, usize, usize);
 
 /// The lowest of what is left of `a` from `i` on and of `b` from `j` on.
 fn lowest(a: &[u8], i: usize, b: &[u8], j: usize) -> Option<Step>
     requires rising { ⌜ (rises 0 (now a) ≡ true) × (rises 0 (now b) ≡ true) ⌝ }
     requires within { ⌜ (i ≤ length (now a)) × (j ≤ length (now b)) ⌝ }
-    ensures { λ r. ⌜ BySome r (union (drop i (now (a .entry))) (drop j (now (b .entry))) ≡ []) (λ t. Stepped (now (a .entry)) (now (b .entry)) i j (t .leaf) (t .left) (t .right)) ⌝ }
+    ensures { λ r. ⌜ BySome r (union (drop i (now (a .entry))) (drop j (now (b .entry))) ≡ []) (λ t. Stepped (now (a .entry)) (now (b .entry)) i j (t .0) (t .1) (t .2)) ⌝ }
 {
     if i < a.len() {
         if j < b.len() {
             if a[i] < b[j] {
-                Some(Step {
-                    leaf: a[i],
-                    left: i + 1,
-                    right: j,
-                })
+                Some(Step(a[i], i + 1, j))
             } else if b[j] < a[i] {
-                Some(Step {
-                    leaf: b[j],
-                    left: i,
-                    right: j + 1,
-                })
+                Some(Step(b[j], i, j + 1))
             } else {
-                Some(Step {
-                    leaf: a[i],
-                    left: i + 1,
-                    right: j + 1,
-                })
+                Some(Step(a[i], i + 1, j + 1))
             }
         } else {
-            Some(Step {
-                leaf: a[i],
-                left: i + 1,
-                right: j,
-            })
+            Some(Step(a[i], i + 1, j))
         }
     } else if j < b.len() {
-        Some(Step {
-            leaf: b[j],
-            left: i,
-            right: j + 1,
-        })
+        Some(Step(b[j], i, j + 1))
     } else {
         None
     }
@@ -143,10 +113,11 @@ impl Cut {
             if len == most {
                 return None;
             }
-            leaves[usize::from(len)] = step.leaf;
+            let Step(leaf, left, right) = step;
+            leaves[usize::from(len)] = leaf;
             len += 1;
-            i = step.left;
-            j = step.right;
+            i = left;
+            j = right;
         }
         Some(Cut { leaves, len })
     }

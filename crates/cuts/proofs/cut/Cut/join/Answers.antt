@@ -1,9 +1,8 @@
 use native.Mathlib.Omega.{arith}
 use Prim.Native.Nat.{_<_}
-use mathlib.Core.Path.{_≡_, ap, _∙_}
-use lib.ListN.{take}
+use mathlib.Core.Path.{ap, _∙_}
 use Rattle.std.proofs.shelf.Lists.{length-take-le, length-set}
-use Rattle.drawing.specs.Sets.{rises, union}
+use Rattle.drawing.specs.Sets.{rises}
 use Rattle.drawing.proofs.SetLaws.{rises-union}
 use Rattle.cuts.specs.Leaves.{leavesOf}
 use Rattle.cuts.proofs.Rows.{row-more, merge-full, merge-done}
@@ -11,8 +10,7 @@ use Rattle.cuts.proofs.cut.Cut.join.Needs as need
 
 pub returns-then-len-most : need.returns-then-len-most
 returns-then-len-most c =
-    let s = c .in-Some .step in
-    let full = merge-full _ _ (leavesOf (c .args .self .now)) (leavesOf (c .args .other .now)) (c .loop-step .leaves) _ _ (c .loop-step .len) (c .leaves-a .ensures) (c .leaves-b .ensures) (c .loop-step .inv .3) (s .leaf) (s .left) (s .right) (c .in-Some .ensures tt .taken) (omega arith) in
+    let full = merge-full _ _ (leavesOf (c .args .self .now)) (leavesOf (c .args .other .now)) (c .loop-step .leaves) _ _ (c .loop-step .len) (c .leaves-a .ensures) (c .leaves-b .ensures) (c .loop-step .inv .3) (c .in-Some .step .0) (c .in-Some .step .1) (c .in-Some .step .2) (c .in-Some .ensures tt .taken) (omega arith) in
     omega (arith, c .if-len-most .taken)
 
 pub loop-step-again : need.loop-step-again
@@ -22,8 +20,8 @@ loop-step-again c =
       s .first .1,
       s .second .1,
       omega arith,
-      row-more (c .loop-step .leaves) _ _ (c .loop-step .len) (c .loop-step .inv .3) _ (c .in-Some .step .leaf) (s .taken) (c .from .result) (c .from .ensures) (omega arith),
-      length-set (c .loop-step .leaves) (c .from .result) (c .in-Some .step .leaf) ∙ c .loop-step .inv .4,
+      row-more (c .loop-step .leaves) _ _ (c .loop-step .len) (c .loop-step .inv .3) _ (c .in-Some .step .0) (s .taken) (c .from .result) (c .from .ensures) (omega arith),
+      length-set (c .loop-step .leaves) (c .from .result) (c .in-Some .step .0) ∙ c .loop-step .inv .4,
     )
 
 pub ghost-result : need.ghost-result
