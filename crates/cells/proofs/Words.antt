@@ -16,7 +16,8 @@ use Rattle.std.proofs.shelf.Bits.{shr-shr, and-shr, and-mod, mod-below, div-add
 use Rattle.std.proofs.shelf.Tests.{eqb-true}
 use Rattle.drawing.specs.Sets.{every}
 use Rattle.drawing.proofs.Members.{every-in, in-counting}
-use Rattle.cells.specs.Limits.{mostLeaves, tableBits}
+use Rattle.cells.specs.Limits.{tableBits}
+use Rattle.drawing.specs.Drawing.{mostLeaves}
 use Rattle.cells.specs.Truth.{bit}
 use Rattle.cells.proofs.Packed.{pow-one, bit-low}
 

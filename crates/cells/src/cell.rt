@@ -1,7 +1,7 @@
 //! A lookup cell.
 
 ghost use Prim.Native.Nat.{_≤_};
-ghost use Rattle.cells.specs.Limits.{mostLeaves};
+ghost use Rattle.drawing.specs.Drawing.{mostLeaves};
 ghost use Rattle.cells.specs.Netlist.{leavesOf};
 ghost use lib.ListN.{length};
 ghost use mathlib.Core.Path.{_≡_};

@@ -7,7 +7,7 @@ ghost use Prim.Native.Nat.{ℕ, _^_, _/_, _<_, _≤_};
 <<<<<<< HEAD
 ghost use Rattle.drawing.specs.Drawing.{mostLeaves};
 =======
-ghost use Rattle.cells.specs.Limits.{mostLeaves, tableBits};
+ghost use Rattle.cells.specs.Limits.{tableBits};
 >>>>>>> cells
 ghost use Rattle.cells.specs.Netlist.{cellOf};
 ghost use Rattle.cells.specs.Truth.{bit, cone, inRow, leafBits, tableBit, tableOf, unset};
