@@ -4,14 +4,10 @@
 use crate::cell::Cell;
 use drawing::node::Node;
 ghost use Prim.Native.Nat.{ℕ, _^_, _/_, _<_, _≤_};
-<<<<<<< HEAD
-ghost use Rattle.drawing.specs.Drawing.{mostLeaves};
-=======
 ghost use Rattle.cells.specs.Limits.{tableBits};
->>>>>>> cells
 ghost use Rattle.cells.specs.Netlist.{cellOf};
 ghost use Rattle.cells.specs.Truth.{bit, cone, inRow, leafBits, tableBit, tableOf, unset};
-ghost use Rattle.drawing.specs.Drawing.{fanins, sound};
+ghost use Rattle.drawing.specs.Drawing.{fanins, mostLeaves, sound};
 ghost use Rattle.drawing.specs.Sets.{below};
 ghost use Rattle.drawing.specs.Values.{literal as literalValue, lookup, turned, valuing};
 ghost use lib.ListN.{length};

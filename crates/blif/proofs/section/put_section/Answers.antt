@@ -12,10 +12,6 @@ use Rattle.drawing.specs.Drawing.{nodeOf, mostNodes}
 use Rattle.drawing.proofs.Lists.{every-at}
 use Rattle.cells.specs.declared.cell.Cell.{Cell}
 use Rattle.cells.specs.declared.cover.Cover.{Cover}
-<<<<<<< HEAD
-use Rattle.drawing.specs.Drawing.{mostLeaves}
-=======
->>>>>>> cells
 use Rattle.cells.specs.Netlist.{Netlist}
 use Rattle.cells.specs.Netlists.{netlistOf}
 use Rattle.cells.proofs.Laws.{cover-outputs}
