@@ -17,10 +17,9 @@ use Rattle.family.specs.Family.{Delay, Laws}
 use Rattle.choice.specs.Choice.{tabled, cutBy, arrivalBy, Chosen}
 use Rattle.choice.proofs.Filling.{listed-within, listed-some, cut-right, filled-more, chosen-more}
 use Rattle.fitter.specs.declared.job.Job.{Job}
-use Rattle.fitter.specs.Book.{Book}
+use Rattle.fitter.specs.Book.{Book, neededIn}
 use Rattle.fitter.specs.Jobs.{bookOf}
 use Rattle.fitter.specs.Keeping.{rowOf}
-use Rattle.fitter.specs.Making.{neededIn}
 use Rattle.fitter.specs.Taking.{AllKept, arrivalTable, Arrived}
 
 module _ (j : Job) where

@@ -24,7 +24,7 @@ use Rattle.cuts.specs.Limits.{limit, mostCuts}
 use Rattle.cuts.specs.Lists.{AtHand, Lists, leftFanin, rightFanin}
 use Rattle.fitter.specs.declared.job.Job.{Job}
 use Rattle.fitter.specs.declared.kept.Kept.{Kept}
-use Rattle.fitter.specs.Jobs.{bookOf, keptOf}
+use Rattle.fitter.specs.Jobs.{bookOf, isKept}
 use Rattle.fitter.specs.Keeping.{heldOf, rowOf}
 use Rattle.fitter.specs.Making.{FaninsKept}
 
@@ -45,7 +45,7 @@ module _ (j : Job) where
   width-few = leb-true _ _ (and-parts _ _ (j .part) .1)
 
   -- a kept list serves as the list of a fanin
-  pub kept-at-hand : (f : ℕ) → (isGate (at nodesOf f) ≡ true → getD (keptOf j) f false ≡ true) → AtHand nodesOf (j .width) f (rowOf (j .lists) f)
+  pub kept-at-hand : (f : ℕ) → (isGate (at nodesOf f) ≡ true → isKept j f ≡ true) → AtHand nodesOf (j .width) f (rowOf (j .lists) f)
   kept-at-hand f h g = ((j .listed f (h g), j .counted f (h g)), row-short (j .lists) f)
 
   module _ (v : ℕ) (gate : isGate (at nodesOf v) ≡ true) (fans : FaninsKept j v) (ns : List Node) (is : ns ≡ nodesOf) where
@@ -87,9 +87,9 @@ held-set held v u l =
     or-none false b h = sym h
 
 module _ (j : Job) (k : Kept) (v : ℕ) (list : List Cut) (gate : isGate (at (nodesOf j) v) ≡ true) (whole : Lists (nodesOf j) (j .width) v list)
-    (held : heldOf k ≡ set (keptOf j) v true) (row : rowOf k v ≡ list) (others : (u : ℕ) → (u ≡ v → ⊥) → rowOf k u ≡ rowOf (j .lists) u) where
-  old : (u : ℕ) → u ≢ v → getD (heldOf k) u false ≡ true → getD (keptOf j) u false ≡ true
-  old u ne h = sym (getD-set-other (keptOf j) v u true false ne) ∙ ap (λ z. getD z u false) (sym held) ∙ h
+    (held : heldOf k ≡ set (heldOf (j .lists)) v true) (row : rowOf k v ≡ list) (others : (u : ℕ) → (u ≡ v → ⊥) → rowOf k u ≡ rowOf (j .lists) u) where
+  old : (u : ℕ) → u ≢ v → getD (heldOf k) u false ≡ true → isKept j u ≡ true
+  old u ne h = sym (getD-set-other (heldOf (j .lists)) v u true false ne) ∙ ap (λ z. getD z u false) (sym held) ∙ h
 
   pub keep-gates : (u : ℕ) → getD (heldOf k) u false ≡ true → isGate (at (nodesOf j) u) ≡ true
   keep-gates u h = ⊎-elim (λ (e : u ≡ v). rw e gate) (λ (e : u ≢ v). j .gates u (old u e h)) (cases-eq u v)

@@ -30,9 +30,9 @@ use Rattle.drawing.proofs.ReachLaws.{out-down}
 use Rattle.cuts.specs.Cuts.{leastCuts}
 use Rattle.cuts.specs.Limits.{limit}
 use Rattle.fitter.specs.declared.job.Job.{Job}
-use Rattle.fitter.specs.Book.{Book}
-use Rattle.fitter.specs.Jobs.{bookOf, keptOf}
-use Rattle.fitter.specs.Making.{MarksNeeded, tooMany, neededIn, crowdedAt, madeBelow, keptBelow, FaninsKept, Making, MakingNeeded, Progress, KeptUpTo, Ready, Stopped, MakingAll}
+use Rattle.fitter.specs.Book.{Book, size, neededIn, tooMany, crowdedAt}
+use Rattle.fitter.specs.Jobs.{bookOf, isKept}
+use Rattle.fitter.specs.Making.{MarksNeeded, madeBelow, keptBelow, FaninsKept, Making, MakingNeeded, Progress, KeptUpTo, Ready, Stopped, MakingAll}
 use Rattle.fitter.proofs.AtHand.{job-sound, row-short}
 
 -- a fanin of a needed gate is needed, if it is a gate
@@ -49,7 +49,7 @@ fanins-kept j v n k f m g =
     k f (fanins-below nodes v f (job-sound j) (gate-range nodes v (and-parts (isGate (at nodes v)) _ n .0)) m) (needed-fanin j v f n m g)
 
 -- a kept list is not too long
-pub kept-fits : (j : Job) (v : ℕ) → getD (keptOf j) v false ≡ true → tooMany (bookOf j) v ≡ false
+pub kept-fits : (j : Job) (v : ℕ) → isKept j v ≡ true → tooMany (bookOf j) v ≡ false
 kept-fits j v h = le-ltb _ _ (omega (arith, j .counted v h, row-short (j .lists) v))
 
 -- the steps
@@ -57,7 +57,7 @@ kept-fits j v h = le-ltb _ _ (omega (arith, j .counted v h, row-short (j .lists)
 pub not-needed : (i : Job) (v : ℕ) → neededIn (bookOf i) v ≡ false → MakingNeeded v i (Ok false) i
 not-needed i v n = (
   refl,
-  (λ u. still (getD (keptOf i) u false) (eqb u v) (neededIn (bookOf i) u) (λ e. subst (λ z. neededIn (bookOf i) z ≡ false) (sym (eqb-true u v e)) n)),
+  (λ u. still (isKept i u) (eqb u v) (neededIn (bookOf i) u) (λ e. subst (λ z. neededIn (bookOf i) z ≡ false) (sym (eqb-true u v e)) n)),
   sym (and-left _ _ n),
 )
   where
@@ -69,8 +69,8 @@ not-needed i v n = (
 pub made-needed : (i j : Job) (v : ℕ) (r : Result Bool Refusal) → neededIn (bookOf i) v ≡ true → Making v i r j → MakingNeeded v i r j
 made-needed i j v (Ok new) n (same, held, is) = (
   same,
-  (λ u. held u ∙ ap (λ z. getD (keptOf i) u false || z) (here u)),
-  is ∙ sym (ap (λ z. z && not (getD (keptOf i) v false)) n),
+  (λ u. held u ∙ ap (λ z. isKept i u || z) (here u)),
+  is ∙ sym (ap (λ z. z && not (isKept i v)) n),
 )
   where
     here : (u : ℕ) → eqb u v ≡ (eqb u v && neededIn (bookOf i) u)
@@ -83,7 +83,7 @@ made-needed i j v (Err e) n (same, is, many) = (same, is, and-from _ _ n many)
 -- from the start to the end
 
 pub progress-start : (i : Job) → Progress i 0 0 i
-progress-start i = record { same = refl; kept = λ u. sym (none (getD (keptOf i) u false) (ltb u 0) (neededIn (bookOf i) u) (le-ltb u 0 (omega arith))); made = refl }
+progress-start i = record { same = refl; kept = λ u. sym (none (isKept i u) (ltb u 0) (neededIn (bookOf i) u) (le-ltb u 0 (omega arith))); made = refl }
   where
     none : (a b c : Bool) → b ≡ false → (a || (b && c)) ≡ a
     none a b c h = grind (arith, tells)
@@ -110,7 +110,7 @@ keep-count p v =
 
 pub progress-below : (i j : Job) (v n : ℕ) → Progress i v n j → KeptUpTo j v
 progress-below i j v n p u l h =
-    p .kept u ∙ or-right (getD (keptOf i) u false) _ (and-from _ _ (lt-ltb u v l) (ap (λ b. neededIn b u) (sym (p .same)) ∙ h))
+    p .kept u ∙ or-right (isKept i u) _ (and-from _ _ (lt-ltb u v l) (ap (λ b. neededIn b u) (sym (p .same)) ∙ h))
 
 below-next : (u v : ℕ) → ltb u (v + 1) ≡ (ltb u v || eqb u v)
 below-next u v = grind (arith, tells)
@@ -119,8 +119,8 @@ kept-next : (a c x y z : Bool) → z ≡ (x || y) → ((a || (x && c)) || (y && 
 kept-next a c x y z h = grind (arith, tells)
 
 -- whether the list of v itself is kept does not hang on those below it
-kept-here : (b : Book) (held : List Bool) (v : ℕ) → keptBelow b held v v ≡ getD held v false
-kept-here b held v = none (getD held v false) (ltb v v) (neededIn b v) (le-ltb v v (omega arith))
+kept-here : (b : Book) (held : ℕ → Bool) (v : ℕ) → keptBelow b held v v ≡ held v
+kept-here b held v = none (held v) (ltb v v) (neededIn b v) (le-ltb v v (omega arith))
   where
     none : (a x c : Bool) → x ≡ false → (a || (x && c)) ≡ a
     none a x c h = grind (arith, tells)
@@ -130,14 +130,14 @@ progress-step i j k v n m new p (same, held, is) e = record {
   same = same ∙ p .same;
   kept = λ u.
       held u ∙ ap (λ z. z || (eqb u v && neededIn (bookOf j) u)) (p .kept u)
-      ∙ ap (λ b. keptBelow (bookOf i) (keptOf i) v u || (eqb u v && neededIn b u)) (p .same)
-      ∙ kept-next (getD (keptOf i) u false) (neededIn (bookOf i) u) (ltb u v) (eqb u v) (ltb u (v + 1)) (below-next u v);
+      ∙ ap (λ b. keptBelow (bookOf i) (isKept i) v u || (eqb u v && neededIn b u)) (p .same)
+      ∙ kept-next (isKept i u) (neededIn (bookOf i) u) (ltb u v) (eqb u v) (ltb u (v + 1)) (below-next u v);
   made =
-      let test : new ≡ (neededIn (bookOf i) v && not (getD (keptOf i) v false)) =
-      is ∙ ap (λ b. neededIn b v && not (getD (keptOf j) v false)) (p .same)
-      ∙ ap (λ z. neededIn (bookOf i) v && not z) (p .kept v ∙ kept-here (bookOf i) (keptOf i) v) in
-      e ∙ ap (λ z. z + cond new 1 0) (p .made) ∙ ap (λ z. madeBelow (bookOf i) (keptOf i) v + cond z 1 0) test
-      ∙ sym (keep-count (λ u. neededIn (bookOf i) u && not (getD (keptOf i) u false)) v);
+      let test : new ≡ (neededIn (bookOf i) v && not (isKept i v)) =
+      is ∙ ap (λ b. neededIn b v && not (isKept j v)) (p .same)
+      ∙ ap (λ z. neededIn (bookOf i) v && not z) (p .kept v ∙ kept-here (bookOf i) (isKept i) v) in
+      e ∙ ap (λ z. z + cond new 1 0) (p .made) ∙ ap (λ z. madeBelow (bookOf i) (isKept i) v + cond z 1 0) test
+      ∙ sym (keep-count (λ u. neededIn (bookOf i) u && not (isKept i u)) v);
 }
 
 -- what was gone through is not crowded
@@ -154,7 +154,7 @@ progress-crowded i j k v n e p (is, named, crowd) = (
   named,
   record {
     same = ap bookOf is ∙ p .same;
-    kept = λ u. ap (λ z. getD (keptOf z) u false) is ∙ p .kept u;
+    kept = λ u. ap (λ z. isKept z u) is ∙ p .kept u;
     crowd = ap (λ b. crowdedAt b v) (sym (p .same)) ∙ crowd;
     lowest = fits-below i j v n p;
   },
@@ -172,9 +172,9 @@ progress-done i j n p = record {
 }
 
 -- no more lists are made than nodes are gone through
-pub made-small : (b : Book) (held : List Bool) (v : ℕ) → madeBelow b held v ≤ v
+pub made-small : (b : Book) (held : ℕ → Bool) (v : ℕ) → madeBelow b held v ≤ v
 made-small b held v =
-    let p : ℕ → Bool = λ u. neededIn b u && not (getD held u false) in
+    let p : ℕ → Bool = λ u. neededIn b u && not (held u) in
     omega (arith, length-kept-by-both p (λ u. not (p u)) (λ u. refl) (counting 0 v), length-counting 0 v)
 
 -- the facts that the loop has at v

@@ -10,7 +10,7 @@ use Rattle.std.specs.declared.result.Result.{Result}
 use Rattle.std.specs.declared.result.Result.the-variants.{Ok, Err}
 use Rattle.std.specs.Results.{isOk}
 use Rattle.std.proofs.shelf.Lists.{getD-set-other}
-use Rattle.std.proofs.shelf.Tests.{and-parts, not-true, eqb-false, or-parts, cond-true, cond-false}
+use Rattle.std.proofs.shelf.Tests.{and-parts, not-true, eqb-false, or-parts, cond-true}
 use Rattle.std.proofs.shelf.Ways.{tells}
 use native.Mathlib.Omega.{arith}
 use Rattle.drawing.specs.declared.node.Pair.{Pair}
@@ -27,7 +27,6 @@ use Rattle.cuts.specs.declared.cut.Cut.{Cut}
 use Rattle.cuts.specs.Cuts.{leastCuts}
 use Rattle.cuts.specs.Leaves.{setsOf}
 use Rattle.cuts.proofs.Stable.{list-retie}
-use Rattle.fitter.specs.Book.{Book, book, keptAfterRetie}
 use Rattle.fitter.proofs.Stays.{Stays, stays-same}
 
 pub stays-equal : (old new : List Node) → new ≡ old → Stays old new
@@ -39,13 +38,6 @@ accepted d g p e = ap isOk (sym e)
 
 pub tied : (d e : Drawing) (g : ℕ) (p : Pair) → Ok tt ≡ retieAnswer d g p → e ≡ afterRetie d g p → e ≡ drawing (set (d .nodes) g (Gate p)) (d .outputs)
 tied d e g p a is = is ∙ cond-true _ _ _ (accepted d g p a)
-
--- which lists are kept then
-pub kept-accepted : (b : Book) (g : ℕ) (p : Pair) (held : List Bool) (u : ℕ) → Ok tt ≡ retieAnswer (b .drawing) g p → keptAfterRetie g p b held u ≡ (getD held u false && not (eqb u g || depends (b .drawing .nodes) g u))
-kept-accepted b g p held u a = cond-true _ _ _ (accepted (b .drawing) g p a)
-
-pub kept-refused : (b : Book) (g : ℕ) (p : Pair) (held : List Bool) (u : ℕ) (e : Refusal) → Err e ≡ retieAnswer (b .drawing) g p → getD held u false ≡ keptAfterRetie g p b held u
-kept-refused b g p held u e a = sym (cond-false _ _ _ (ap isOk (sym a)))
 
 module _ (d e : Drawing) (g : ℕ) (p : Pair) (k : ℕ) (is : e ≡ drawing (set (d .nodes) g (Gate p)) (d .outputs)) (old : lawful d ≡ true) (new : lawful e ≡ true)
     (held after : List Bool) (marks : ℕ → Bool) (rows rows′ : ℕ → List Cut)

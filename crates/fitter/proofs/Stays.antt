@@ -76,3 +76,12 @@ nothing-kept held n e v h = none-kept n v (rw e at h)
 -- a fact holds where the answer is a refusal
 pub unless-is : {T P : Type 0} (r : Result T Refusal) (e : Refusal) → r ≡ Err e → P → Unless r P
 unless-is {T} {P} r e is p = subst (λ z. Unless z P) (sym is) p
+
+-- a list that is not kept
+pub unkept : (held : List Bool) (n : ℕ) → held ≡ replicate n false → (v : ℕ) → getD held v false ≡ false
+unkept held n e v = ap (λ z. getD z v false) e ∙ none n v
+  where
+    none : (n v : ℕ) → getD (replicate n false) v false ≡ false
+    none zero v = refl
+    none (suc n) zero = refl
+    none (suc n) (suc v) = none n v

@@ -1,6 +1,7 @@
 -- What a job holds.
-use mathlib.Core.Bool.{Bool}
-use mathlib.Core.List.{List}
+use Prim.Native.Nat.{ℕ}
+use mathlib.Core.Bool.{Bool, false}
+use lib.ListN.{getD}
 use Rattle.drawing.specs.Tables.{drawingOf}
 use Rattle.fitter.specs.declared.job.Job.{Job}
 use Rattle.fitter.specs.Book.{Book, book}
@@ -10,6 +11,6 @@ use Rattle.fitter.specs.Keeping.{heldOf}
 abbrev pub bookOf : Job → Book
 bookOf j = book (drawingOf (j .table)) (j .width)
 
--- for each node, whether its list is kept
-abbrev pub keptOf : Job → List Bool
-keptOf j = heldOf (j .lists)
+-- whether the list of a node is kept
+abbrev pub isKept : Job → ℕ → Bool
+isKept j v = getD (heldOf (j .lists)) v false

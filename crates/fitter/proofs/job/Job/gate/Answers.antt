@@ -30,7 +30,6 @@ pub returns : need.returns
 returns c =
     record {
       answer = c .gate .ensures .answer;
-      book = ap (λ d. book d (c .args .self .now .width)) (c .gate .ensures .after);
-      lists = refl;
+      did = record { book = ap (λ d. book d (c .args .self .now .width)) (c .gate .ensures .after); lists = λ u. refl };
       refused = unless-same (c .gate .result) (λ e. same-job _ _ e refl refl) (c .gate .ensures .refused);
     }

@@ -7,7 +7,7 @@ use native.Mathlib.Omega.{arith}
 use lib.ListN.{length}
 use Rattle.std.proofs.shelf.Results.{err-from-errBy}
 use Rattle.std.specs.declared.result.Result.the-variants.{Err}
-use Rattle.fitter.specs.Jobs.{bookOf, keptOf}
+use Rattle.fitter.specs.Jobs.{bookOf, isKept}
 use Rattle.fitter.specs.Making.{Progress, MakingAll}
 use Rattle.fitter.proofs.AtHand.{job-few}
 use Rattle.fitter.proofs.Progress.{progress-start, progress-step, progress-below, progress-crowded, progress-done, made-small, inside-same, marked-same}
@@ -32,7 +32,7 @@ pub add-made : need.add-made
 add-made c =
     let i = c .args .self .now in
     let l = c .loop-v in
-    let a : l .made ≤ l .v = omega (arith, l .inv .made, made-small (bookOf i) (keptOf i) (l .v)) in
+    let a : l .made ≤ l .v = omega (arith, l .inv .made, made-small (bookOf i) (isKept i) (l .v)) in
     let b = ap length (c .nodes-v-end .ensures) in
     let d = job-few i in
     let e : l .made < 256 = omega arith in

@@ -30,7 +30,6 @@ pub returns : need.returns
 returns c =
     record {
       answer = c .output .ensures .answer;
-      book = ap (λ d. book d (c .args .self .now .width)) (c .output .ensures .after);
-      lists = refl;
+      did = record { book = ap (λ d. book d (c .args .self .now .width)) (c .output .ensures .after); lists = λ u. refl };
       refused = unless-same (c .output .result) (λ e. same-job _ _ e refl refl) (c .output .ensures .refused);
     }

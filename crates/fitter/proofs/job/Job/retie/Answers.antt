@@ -7,16 +7,18 @@ use lib.ListN.{getD, length}
 use Rattle.drawing.specs.Drawing.{sound, mostNodes}
 use Rattle.fitter.proofs.AtHand.{job-sound, job-few}
 use Rattle.std.specs.declared.result.Result.the-variants.{Ok, Err}
+use Rattle.std.specs.Results.{isOk}
 use Rattle.std.proofs.shelf.Results.{err-from-errBy}
+use Rattle.std.proofs.shelf.Tests.{cond-true, cond-false}
 use Rattle.drawing.specs.declared.node.Node.{Node}
 use Rattle.drawing.specs.Reach.{depends}
 use Rattle.drawing.specs.Tables.{drawingOf}
 use Rattle.fitter.specs.Book.{book}
-use Rattle.fitter.specs.Jobs.{bookOf, keptOf}
+use Rattle.fitter.specs.Jobs.{bookOf, isKept}
 use Rattle.fitter.specs.Keeping.{heldOf, rowOf}
 use Rattle.fitter.proofs.Same.{same-job}
 use Rattle.fitter.proofs.Stays.{gates-stay, listed-stay, counted-stay, unless-is}
-use Rattle.fitter.proofs.Retied.{stays-equal, tied, kept-accepted, kept-refused, retied-gates, retied-listed, retied-counted}
+use Rattle.fitter.proofs.Retied.{stays-equal, tied, retied-gates, retied-listed, retied-counted}
 use Rattle.fitter.proofs.job.Job.retie.Needs as need
 
 pub ghost-self : need.ghost-self
@@ -41,9 +43,9 @@ ghost-self-2 c =
     let is = tied d (drawingOf t) g (c .args .pair) (c .in-Continue-retie .ensures tt .answer) (c .in-Continue-retie .ensures tt .after) in
     let marked : (u : ℕ) → marks u ≡ (eqb u g || depends (d .nodes) g u) = λ u. c .dependents-above .ensures u ∙ ap (λ (z : List Node). eqb u g || depends z g u) (c .nodes .ensures) in
     (j .part,
-      (retied-gates d (drawingOf t) g (c .args .pair) (j .width) is (j .table .law) (t .law) (keptOf j) (heldOf k) marks (rowOf (j .lists)) (rowOf k) (c .forget .ensures .held) marked (c .forget .ensures .rows) (j .gates),
-        (retied-listed d (drawingOf t) g (c .args .pair) (j .width) is (j .table .law) (t .law) (keptOf j) (heldOf k) marks (rowOf (j .lists)) (rowOf k) (c .forget .ensures .held) marked (c .forget .ensures .rows) (j .gates) (j .listed),
-          (retied-counted d (drawingOf t) g (c .args .pair) (j .width) is (j .table .law) (t .law) (keptOf j) (heldOf k) marks (rowOf (j .lists)) (rowOf k) (c .forget .ensures .held) marked (c .forget .ensures .rows) (j .gates) (j .counted), tt))))
+      (retied-gates d (drawingOf t) g (c .args .pair) (j .width) is (j .table .law) (t .law) (heldOf (j .lists)) (heldOf k) marks (rowOf (j .lists)) (rowOf k) (c .forget .ensures .held) marked (c .forget .ensures .rows) (j .gates),
+        (retied-listed d (drawingOf t) g (c .args .pair) (j .width) is (j .table .law) (t .law) (heldOf (j .lists)) (heldOf k) marks (rowOf (j .lists)) (rowOf k) (c .forget .ensures .held) marked (c .forget .ensures .rows) (j .gates) (j .listed),
+          (retied-counted d (drawingOf t) g (c .args .pair) (j .width) is (j .table .law) (t .law) (heldOf (j .lists)) (heldOf k) marks (rowOf (j .lists)) (rowOf k) (c .forget .ensures .held) marked (c .forget .ensures .rows) (j .gates) (j .counted), tt))))
 
 pub returns : need.returns
 returns c =
@@ -52,11 +54,13 @@ returns c =
     let a = c .in-Continue-retie .ensures tt .answer in
     record
       { answer = a
-      ; book = ap (λ d. book d (j .width)) (c .in-Continue-retie .ensures tt .after)
-      ; lists = λ u.
-          c .forget .ensures .held u
-          ∙ ap (λ z. getD (keptOf j) u false && not z) (c .dependents-above .ensures u ∙ ap (λ (z : List Node). eqb u g || depends z g u) (c .nodes .ensures))
-          ∙ sym (kept-accepted (bookOf j) g (c .args .pair) (keptOf j) u a)
+      ; did = record
+          { book = ap (λ d. book d (j .width)) (c .in-Continue-retie .ensures tt .after)
+          ; lists = λ u.
+              c .forget .ensures .held u
+              ∙ ap (λ z. isKept j u && not z) (c .dependents-above .ensures u ∙ ap (λ (z : List Node). eqb u g || depends z g u) (c .nodes .ensures))
+              ∙ sym (cond-true _ _ _ (ap isOk (sym a)))
+          }
       ; refused = tt
       }
 
@@ -67,8 +71,7 @@ returns-in-Break-retie c =
     let e = c .in-Break-retie .ensures tt in
     record
       { answer = p .1 ∙ ap Err (p .2) ∙ e .answer
-      ; book = ap (λ d. book d (j .width)) (e .after)
-      ; lists = λ u. kept-refused (bookOf j) (c .args .gate) (c .args .pair) (keptOf j) u (c .in-Break-retie .field-0 .0) (e .answer)
+      ; did = record { book = ap (λ d. book d (j .width)) (e .after); lists = λ u. sym (cond-false _ _ _ (ap isOk (sym (e .answer)))) }
       ; refused = unless-is (c .from-residual .result) (p .0) (p .1) (same-job _ _ (e .refused) refl refl)
       }
 
