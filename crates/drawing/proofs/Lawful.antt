@@ -89,9 +89,9 @@ lawful-tie nodes outputs g p h gate b =
     let l = ltb-true _ _ (q .0) in
     let e : eqb g 0 ≡ false = ne-eqb g 0 (omega arith) in
     let s : soundAt g (Gate p) ≡ true = rw e (and-from _ _ refl (and-from _ _ (q .0) (and-from _ _ (q .1) refl))) in
-    says-lawful (set nodes g (Gate p)) outputs record
-      { nodes-sound = sound-set nodes g (Gate p) (w .nodes-sound) s
-      ; outputs-named = λ o i. omega (arith, w .outputs-named o i, length-set nodes g (Gate p))
-      ; nodes-few = omega (arith, w .nodes-few, length-set nodes g (Gate p))
-      ; outputs-few = w .outputs-few
-      }
+    says-lawful (set nodes g (Gate p)) outputs record {
+      nodes-sound = sound-set nodes g (Gate p) (w .nodes-sound) s;
+      outputs-named = λ o i. omega (arith, w .outputs-named o i, length-set nodes g (Gate p));
+      nodes-few = omega (arith, w .nodes-few, length-set nodes g (Gate p));
+      outputs-few = w .outputs-few;
+    }

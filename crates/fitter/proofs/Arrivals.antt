@@ -55,7 +55,7 @@ module _ (j : Job) where
       pub taken-step : (cs : List Cut) (c : Cut) → v < length cs → Chosen F (bookOf j .drawing .nodes) (bookOf j .drawing .outputs) (j .width) v (setsOf cs) → leavesOf c ≡ cutBy F table (setsOf row) here → Chosen F (bookOf j .drawing .nodes) (bookOf j .drawing .outputs) (j .width) (v + 1) (setsOf (set cs v c))
       taken-step cs c m t e =
           chosen-more F (bookOf j .drawing .nodes) (bookOf j .drawing .outputs) (j .width) leavesOf cs v c m t
-            (e ∙ cut-right (bookOf j .drawing .nodes) (bookOf j .drawing .outputs) job-lawful (j .width) F L width-wide v table (setsOf row) (before .filled) here same row-alike)
+          (e ∙ cut-right (bookOf j .drawing .nodes) (bookOf j .drawing .outputs) job-lawful (j .width) F L width-wide v table (setsOf row) (before .filled) here same row-alike)
 
 module _ {A : Type 0} (F : Delay A) (b : Book) where
   pub arrived-start : (table : List A) → Arrived F b 0 table table

@@ -6,3 +6,5 @@ pub mod Progress
 pub mod Arrivals
 pub mod Dependents
 pub mod Retied
+pub mod Histories
+pub mod Accepting

@@ -58,9 +58,10 @@ module _ (d e : Drawing) (g : ℕ) (p : Pair) (k : ℕ) (is : e ≡ drawing (set
       let gate = gates v (q .0) in
       let n : e .nodes ≡ set (d .nodes) g (Gate p) = ap (λ z. z .nodes) is in
       let s = lawful-says (d .nodes) (d .outputs) old .nodes-sound in
-      let t = subst (λ z. sound z ≡ true) n (lawful-says (e .nodes) (e .outputs) new .nodes-sound) in
-      ( subst (λ z. isGate (at z v) ≡ true) (sym n) (ap isGate (getD-set-other (d .nodes) g v (Gate p) Constant (q .1)) ∙ gate)
-      , list-retie (d .nodes) g (Gate p) k v s t (gate-range (d .nodes) v gate) (q .1) (q .2) ∙ ap (λ z. leastCuts z k v) (sym n) )
+      let t = subst (λ z. sound z ≡ true) n (lawful-says (e .nodes) (e .outputs) new .nodes-sound) in (
+        subst (λ z. isGate (at z v) ≡ true) (sym n) (ap isGate (getD-set-other (d .nodes) g v (Gate p) Constant (q .1)) ∙ gate),
+        list-retie (d .nodes) g (Gate p) k v s t (gate-range (d .nodes) v gate) (q .1) (q .2) ∙ ap (λ z. leastCuts z k v) (sym n),
+      )
 
   pub retied-gates : (v : ℕ) → getD after v false ≡ true → isGate (at (e .nodes) v) ≡ true
   retied-gates v h = still v h .0

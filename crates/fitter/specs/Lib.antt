@@ -6,3 +6,4 @@ pub mod Jobs
 pub mod History
 pub mod Making
 pub mod Taking
+pub mod Mapping

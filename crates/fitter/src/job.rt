@@ -2,6 +2,7 @@
 
 pub mod calls;
 mod making;
+pub mod map;
 mod taking;
 
 use crate::kept::Kept;

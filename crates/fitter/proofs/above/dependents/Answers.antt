@@ -21,15 +21,18 @@ loop-v-again c =
     let l = c .loop-v in
     let b = c .leads-to-marked .result in
     let room : l .v < length (l .marks) = omega (arith, l .inv .0, c .pre .few) in
-    elim (c .if-leads-to-marked .came)
-      [ then-leads-to-marked w ↦
-          (ap length (w .marks-is) ∙ simp length-set (l .inv .0),
-            marked-step (c .args .nodes .now) (c .pre .drawn) (c .args .of) (l .v) (l .marks) (c .if-leads-to-marked .marks) b (c .loop-v-test .taken) room (l .inv .1) (c .leads-to-marked .ensures)
-              (λ _. w .marks-is) (λ h. absurd (both-ways b h (w .if-leads-to-marked .taken))))
-      | else-leads-to-marked w ↦
-          (ap length (w .marks-is) ∙ l .inv .0,
-            marked-step (c .args .nodes .now) (c .pre .drawn) (c .args .of) (l .v) (l .marks) (c .if-leads-to-marked .marks) b (c .loop-v-test .taken) room (l .inv .1) (c .leads-to-marked .ensures)
-              (λ h. absurd (both-ways b (w .if-leads-to-marked .left) h)) (λ _. w .marks-is)) ]
+    elim (c .if-leads-to-marked .came) [
+      | then-leads-to-marked w ↦ (
+        ap length (w .marks-is) ∙ simp length-set (l .inv .0),
+        marked-step (c .args .nodes .now) (c .pre .drawn) (c .args .of) (l .v) (l .marks) (c .if-leads-to-marked .marks) b (c .loop-v-test .taken) room (l .inv .1) (c .leads-to-marked .ensures)
+            (λ _. w .marks-is) (λ h. absurd (both-ways b h (w .if-leads-to-marked .taken))),
+      )
+      | else-leads-to-marked w ↦ (
+        ap length (w .marks-is) ∙ l .inv .0,
+        marked-step (c .args .nodes .now) (c .pre .drawn) (c .args .of) (l .v) (l .marks) (c .if-leads-to-marked .marks) b (c .loop-v-test .taken) room (l .inv .1) (c .leads-to-marked .ensures)
+            (λ h. absurd (both-ways b (w .if-leads-to-marked .left) h)) (λ _. w .marks-is),
+      )
+    ]
 
 pub returns : need.returns
 returns c = marked-done (c .args .nodes .now) (c .pre .drawn) (c .args .of) (c .loop-v .v) (c .loop-v .marks) (c .loop-v-test .left) (c .loop-v .inv .1)

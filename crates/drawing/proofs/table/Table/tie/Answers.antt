@@ -14,11 +14,17 @@ ghost-self c =
     let t = c .args .self .now in
     let v = c .args .v in
     let n = Gate (c .args .pair) in
-    let inside : v < t .count = gate-in-front (t .count) (t .nodes) v (c .pre .gate) in
-    ((simp length-set (t .room .0), t .room .1),
-      (t .within,
-        (subst (λ z. lawful (drawing z (take (t .«output_count») (t .outputs))) ≡ true) (sym (take-set-within (t .count) (t .nodes) v n inside))
-          (lawful-tie (take (t .count) (t .nodes)) (take (t .«output_count») (t .outputs)) v (c .args .pair) (t .law) (c .pre .gate) (c .pre .below)), tt)))
+    let inside : v < t .count = gate-in-front (t .count) (t .nodes) v (c .pre .gate) in (
+      (simp length-set (t .room .0), t .room .1),
+      (
+        t .within,
+        (
+          subst (λ z. lawful (drawing z (take (t .«output_count») (t .outputs))) ≡ true) (sym (take-set-within (t .count) (t .nodes) v n inside))
+              (lawful-tie (take (t .count) (t .nodes)) (take (t .«output_count») (t .outputs)) v (c .args .pair) (t .law) (c .pre .gate) (c .pre .below)),
+          tt,
+        ),
+      ),
+    )
 
 pub returns : need.returns
 returns c =

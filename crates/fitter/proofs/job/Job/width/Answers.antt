@@ -23,11 +23,11 @@ returns-then-width-self c =
     let w = c .args .width in
     let ok : isWidth w ≡ true = and-from _ _ (le-leb 2 w (omega arith)) (le-leb w 5 (omega arith)) in
     let ne : eqb w (j .width) ≡ false = ne-eqb w (j .width) (c .if-width-self .taken) in
-    record
-      { answer = sym (cond-true _ _ _ ok)
-      ; did = record
-          { book = ap (λ z. book (drawingOf (j .table)) z) (sym (cond-true _ w (j .width) ok))
-          ; lists = λ u. unkept _ mostNodes (c .clear .ensures) u ∙ sym (cond-true _ _ _ (and-from _ _ ok (not-from-false _ ne)))
-          }
-      ; refused = tt
-      }
+    record {
+      answer = sym (cond-true _ _ _ ok);
+      did = record {
+        book = ap (λ z. book (drawingOf (j .table)) z) (sym (cond-true _ w (j .width) ok));
+        lists = λ u. unkept _ mostNodes (c .clear .ensures) u ∙ sym (cond-true _ _ _ (and-from _ _ ok (not-from-false _ ne)));
+      };
+      refused = tt;
+    }
