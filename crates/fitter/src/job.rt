@@ -3,6 +3,7 @@
 pub mod calls;
 mod making;
 pub mod map;
+pub mod reading;
 mod taking;
 
 use crate::kept::Kept;
