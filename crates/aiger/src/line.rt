@@ -28,7 +28,7 @@ pub struct Line {
 }
 
 impl Line {
-    /// The first line of a text, behind its first word the header's five figures.
+    /// The first line of a text, which has five figures behind the first word.
     pub(crate) fn first() -> Line
         ensures { λ r. ⌜ r ≡ firstLine ⌝ }
     {
