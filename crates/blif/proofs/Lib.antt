@@ -4,3 +4,4 @@ pub mod Pieces
 pub mod Read
 pub mod BlockValues
 pub mod Meanings
+pub mod Modelled
