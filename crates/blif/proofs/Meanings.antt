@@ -1,29 +1,29 @@
 -- Whatever values satisfy the cell list, its outputs have what the netlist answers to its inputs.
-use Prim.Native.Nat.{ℕ, zero, suc, _+_, _-_, _*_, _/_, _%_, _^_, _≤_, _<_}
+use Prim.Native.Nat.{ℕ, _+_, _*_, _%_, _^_, _≤_}
 use mathlib.Core.Path.{_≡_, refl, sym, ap, subst, _∙_}
-use mathlib.Core.Logic.{_⊎_, inl, inr, ⊎-elim}
-use mathlib.Core.Bool.{Bool, true, false, cond, _&&_, _||_}
+use mathlib.Core.Logic.{inl, inr, ⊎-elim}
+use mathlib.Core.Bool.{true, false}
 use mathlib.Core.List.{List, [], _∷_, _++_, map}
 use native.Mathlib.Omega.{arith}
 use lib.Dec.{eqb, ltb}
-use lib.ListN.{length, getD}
+use lib.ListN.{length}
 use Rattle.std.specs.Iters.{counting}
 use Rattle.std.proofs.shelf.Lists.{length-map}
 use Rattle.std.proofs.shelf.Tests.{and-parts, or-cases, cond-true, cond-false, cond-both, eqb-true, eq-eqb, ne-eqb, cases-bool, cases-eq, both-ways, ltb-true}
 use Rattle.drawing.specs.Sets.{every, mem, rises, In}
 use Rattle.drawing.specs.Drawing.{nodeOf}
-use Rattle.drawing.specs.Values.{Binary, turned, lookup, bound}
+use Rattle.drawing.specs.Values.{Binary, turned, bound}
 use Rattle.drawing.proofs.Members.{every-in, in-map, in-append-left, in-append-right}
 use Rattle.drawing.proofs.ValueLaws.{binary-none, binary-cons, bound-small}
 use Rattle.cells.specs.declared.cell.Cell.{Cell}
 use Rattle.cells.specs.Truth.{bit}
 use Rattle.cells.specs.Netlist.{Netlist, leavesOf, plain, rootName, rowOf, cellValue, look, after, settled, outputValue, answers}
-use Rattle.cells.specs.Laws.{known, cellLawful, namesAfter, cellsLawful, outputLawful, rootsOf, namesOf, numbered, lawfulCover}
+use Rattle.cells.specs.Laws.{known, cellLawful, namesAfter, cellsLawful, outputLawful, rootsOf, namesOf, lawfulCover}
 use Rattle.cells.proofs.Words.{bit-small}
 use Rattle.cells.proofs.Laws.{cell-says, cover-says}
 use Rattle.blif.specs.Text.{nodeName, outputName, onRows}
-use Rattle.blif.specs.Reading.{Block, Model, readModel, gives, blockValue}
-use Rattle.blif.specs.Meaning.{wholeText, Satisfies, Means}
+use Rattle.blif.specs.Reading.{Block, Model, blockValue}
+use Rattle.blif.specs.Meaning.{Satisfies, Means}
 use Rattle.blif.proofs.Read.{rowWords, cellBlock, outputBlockBy, outputBlock, outputBlocks, read-whole}
 use Rattle.blif.proofs.BlockValues.{rowNumber, table-value, constant-value, copy-value}
 

@@ -1,8 +1,8 @@
 -- Every row has values that satisfy the cell list.
-use Prim.Native.Nat.{ℕ, zero, suc, _+_, _-_, _*_, _/_, _%_, _≤_, _<_}
+use Prim.Native.Nat.{ℕ, _+_, _-_, _*_, _/_, _%_, _≤_, _<_}
 use mathlib.Core.Path.{_≡_, refl, sym, ap, subst, _∙_}
 use mathlib.Core.Logic.{_⊎_, inl, inr, ⊎-elim}
-use mathlib.Core.Bool.{Bool, true, false, cond, not, _&&_, _||_}
+use mathlib.Core.Bool.{true, false, cond}
 use mathlib.Core.List.{List, [], _∷_, _++_, map}
 use native.Mathlib.Omega.{arith}
 use lib.Dec.{eqb, ltb}
@@ -12,7 +12,7 @@ use Rattle.std.proofs.shelf.Tests.{and-parts, or-cases, cond-true, cond-false, 
 use Rattle.drawing.specs.Sets.{mem, rises, In}
 use Rattle.drawing.specs.Drawing.{nodeOf}
 use Rattle.drawing.specs.Values.{Binary, bound}
-use Rattle.drawing.proofs.Members.{every-in, in-map, in-mem, mem-in, map-in, in-append}
+use Rattle.drawing.proofs.Members.{every-in, in-map, in-mem, map-in, in-append}
 use Rattle.drawing.proofs.SetLaws.{rises-mem}
 use Rattle.cells.specs.declared.cell.Cell.{Cell}
 use Rattle.cells.specs.Truth.{bit}
@@ -24,7 +24,7 @@ use Rattle.blif.specs.Text.{number, nodeName, outputName}
 use Rattle.blif.specs.Reading.{Block, Model, blockValue}
 use Rattle.blif.specs.Meaning.{Satisfies, HasMeaning}
 use Rattle.blif.proofs.Read.{cellBlock, outputBlock, outputBlocks, read-whole}
-use Rattle.blif.proofs.Meanings.{Small, cell-block, output-block, settled-none, settled-small}
+use Rattle.blif.proofs.Meanings.{cell-block, output-block, settled-none, settled-small}
 
 -- a number by its digits
 decodeFrom : ℕ → List ℕ → ℕ
