@@ -1,19 +1,19 @@
 -- The values of the blocks: of a table's rows, and of an output's.
 use Prim.Native.Nat.{ℕ, zero, suc, _+_, _-_, _*_, _/_, _%_, _^_, _≤_, _<_}
 use mathlib.Core.Path.{_≡_, refl, sym, ap, subst, _∙_}
-use mathlib.Core.Logic.{_⊎_, inl, inr, ⊎-elim}
-use mathlib.Core.Bool.{Bool, true, false, cond, _&&_, _||_}
-use mathlib.Core.List.{List, [], _∷_, _++_, map}
+use mathlib.Core.Logic.{⊎-elim}
+use mathlib.Core.Bool.{Bool, true, false, cond, _||_}
+use mathlib.Core.List.{List, [], _∷_, map}
 use native.Mathlib.Numerals.{add-one}
 use native.Mathlib.Omega.{arith}
 use lib.Chars.{codes}
 use lib.Dec.{eqb}
-use lib.ListN.{length, getD}
+use lib.ListN.{length}
 use Rattle.std.specs.Iters.{counting}
 use Rattle.std.proofs.shelf.Lists.{append-nil}
-use Rattle.std.proofs.shelf.Tests.{and-parts, and-from, or-cases, or-left, or-right, cond-true, cond-false, cond-both, eqb-true, eqb-false, eq-eqb, ne-eqb, cases-bool, cases-eq, both-ways}
-use Rattle.drawing.specs.Sets.{some, keep, same, In}
-use Rattle.drawing.specs.Values.{Binary, turned}
+use Rattle.std.proofs.shelf.Tests.{and-parts, and-from, cond-true, cond-false, eqb-true, eqb-false, eq-eqb, ne-eqb, cases-bool, cases-eq, both-ways}
+use Rattle.drawing.specs.Sets.{some}
+use Rattle.drawing.specs.Values.{Binary}
 use Rattle.drawing.proofs.Members.{some-in, in-some, in-keep, keep-in, in-counting, counting-in, some-same}
 use Rattle.drawing.proofs.Scans.{some-map}
 use Rattle.cells.specs.Truth.{bit}

@@ -1,17 +1,14 @@
 -- Texts split into lines, and lines into words.
-use Prim.Native.Nat.{ℕ, zero, suc, _+_, _/_, _%_, _<_, _≤_}
-use mathlib.Core.Path.{_≡_, refl, sym, ap, _∙_}
+use Prim.Native.Nat.{ℕ, zero, suc, _+_, _/_, _%_, _<_}
+use mathlib.Core.Path.{_≡_, refl, ap, _∙_}
 use mathlib.Core.Logic.{inl, inr}
-use mathlib.Core.Bool.{Bool, true, false, cond, not, _&&_}
+use mathlib.Core.Bool.{true, false, not}
 use mathlib.Core.List.{List, [], _∷_, _++_, map}
 use native.Mathlib.Omega.{arith}
 use lib.Dec.{eqb, ltb}
-use lib.ListN.{length}
-use Rattle.std.specs.shelf.Lists.{joined}
-use Rattle.std.proofs.shelf.Lists.{append-nil, append-assoc}
+use Rattle.std.proofs.shelf.Lists.{append-nil}
 use Rattle.std.proofs.shelf.Tests.{and-parts, and-from, not-true, not-from-false, cond-true, cond-false, cond-both, eq-eqb, ne-eqb, both-ways}
 use Rattle.drawing.specs.Sets.{every, keep, In}
-use Rattle.drawing.proofs.Members.{in-every}
 use Rattle.blif.specs.Text.{number, name, spaced, leafDigits}
 use Rattle.blif.specs.Reading.{onto, split, someByte, pieces, wordsOf, linesOf}
 

@@ -1,26 +1,25 @@
 -- What the cell list is read as.
-use Prim.Native.Nat.{ℕ, zero, suc, _+_, _-_, _*_, _/_, _%_, _^_, _≤_, _<_}
+use Prim.Native.Nat.{ℕ, zero, suc, _+_, _-_, _%_, _^_}
 use mathlib.Core.Path.{_≡_, refl, sym, ap, subst, _∙_}
-use mathlib.Core.Logic.{_⊎_, inl, inr, ⊎-elim}
-use mathlib.Core.Bool.{Bool, true, false, cond, _&&_, _||_}
+use mathlib.Core.Logic.{inl, inr, ⊎-elim}
+use mathlib.Core.Bool.{Bool, true, false, cond}
 use mathlib.Core.List.{List, [], _∷_, _++_, map}
 use native.Mathlib.Omega.{arith}
 use lib.Chars.{codes}
 use lib.Dec.{eqb}
-use lib.ListN.{length, getD, take, drop}
+use lib.ListN.{length}
 use Rattle.std.specs.Iters.{counting}
 use Rattle.std.specs.shelf.Lists.{joined}
 use Rattle.std.proofs.shelf.Lists.{append-nil, append-assoc, length-push, take-at, getD-push}
-use Rattle.std.proofs.shelf.Tests.{cond-true, cond-false, ne-eqb, cases-bool}
-use Rattle.drawing.specs.Sets.{In, same}
+use Rattle.std.proofs.shelf.Tests.{cond-false, ne-eqb}
 use Rattle.drawing.specs.Drawing.{nodeOf}
 use Rattle.drawing.proofs.Members.{in-append, map-in}
 use Rattle.cells.specs.declared.cell.Cell.{Cell}
 use Rattle.cells.specs.Netlist.{Netlist, leavesOf}
-use Rattle.blif.specs.Text.{nodeName, outputName, spaced, nodeNames, outputNames, headText, leafDigits, line, onRows, tableLines, cellText, outputText, outputTexts, texts}
-use Rattle.blif.specs.Reading.{someByte, wordsOf, linesOf, Block, Model, block, command, looseRow, readLine, readLines, readModel, front, last}
+use Rattle.blif.specs.Text.{nodeName, outputName, spaced, nodeNames, outputNames, headText, leafDigits, line, onRows, cellText, outputTexts}
+use Rattle.blif.specs.Reading.{someByte, linesOf, Block, Model, block, looseRow, readLine, readLines, readModel, front, last}
 use Rattle.blif.specs.Meaning.{wholeText}
-use Rattle.blif.proofs.Pieces.{Word, Words, Free, line-at, words-spaced, free-append, free-spaced, some-append, name-word, digits-free, pieces-at, pieces-end}
+use Rattle.blif.proofs.Pieces.{Word, Words, Free, line-at, words-spaced, free-append, free-spaced, some-append, name-word, digits-free, pieces-at}
 use Rattle.blif.proofs.Texts.{spaced-push}
 
 -- the words of the line of row m of n leaves

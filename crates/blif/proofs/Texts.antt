@@ -1,6 +1,6 @@
 -- One more name, digit, line or section.
-use Prim.Native.Nat.{ℕ, zero, suc, _+_, _-_, _/_, _%_, _^_, _≤_, _<_}
-use mathlib.Core.Path.{_≡_, refl, sym, ap, subst, _∙_}
+use Prim.Native.Nat.{ℕ, zero, suc, _+_, _-_, _/_, _%_, _≤_, _<_}
+use mathlib.Core.Path.{_≡_, refl, sym, ap, _∙_}
 use mathlib.Core.Bool.{false, cond}
 use mathlib.Core.List.{List, [], _∷_, _++_, map}
 use native.Mathlib.Nat.{zero-add, add-zero}
@@ -14,13 +14,12 @@ use Rattle.std.specs.shelf.Lists.{joined}
 use Rattle.std.proofs.shelf.Counted.{map-counting-more}
 use Rattle.std.proofs.shelf.Elements.{kept-by-append}
 use Rattle.std.proofs.shelf.Lists.{map-id, map-more, joined-more, length-append, length-map, getD-map, getD-append-left, getD-append-right, getD-at, append-nil}
-use Rattle.std.proofs.shelf.Tests.{cond-true, cond-false}
 use Rattle.drawing.specs.Sets.{keep}
 use Rattle.cells.specs.declared.cell.Cell.{Cell}
 use Rattle.cells.specs.Truth.{bit}
 use Rattle.cells.specs.Netlist.{Netlist}
 use Rattle.cells.proofs.Words.{bit-first, bit-half}
-use Rattle.blif.specs.Text.{nodeName, outputName, spaced, nodeNames, outputNames, headText, leafDigits, line, onRows, cellText, outputText, outputTexts, texts}
+use Rattle.blif.specs.Text.{nodeName, outputName, spaced, nodeNames, outputNames, leafDigits, line, onRows, cellText, outputText, outputTexts}
 use Rattle.blif.specs.Sections.{sectionCount, sectionText}
 
 pub spaced-push : (names : List (List ℕ)) (word : List ℕ) → spaced names ++ (32 ∷ word) ≡ spaced (names ++ word ∷ [])

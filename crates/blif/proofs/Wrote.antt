@@ -26,9 +26,6 @@ wrote-is {o} {p} {a} {b} {o₁} {p₁} w e = subst (λ (x : List ℕ). Wrote o p
 pub wrote-at : {o : List ℕ} {p : ℕ} {a : List ℕ} {o₁ : List ℕ} {p₁ : ℕ} {o₂ : List ℕ} {p₂ : ℕ} → Wrote o p a o₁ p₁ → o₂ ≡ o₁ → p₂ ≡ p₁ → Wrote o p a o₂ p₂
 wrote-at w e f = record { holds = e ∙ w .holds; next = f ∙ w .next }
 
-pub wrote-none : (o : List ℕ) (p : ℕ) → Wrote o p [] o p
-wrote-none o p = record { holds = refl; next = sym (add-zero p) }
-
 -- a text that fits
 over-after : (xs out bs : List ℕ) (p : ℕ) → length xs ≡ p → length bs ≤ length out → over (xs ++ out) p bs ≡ xs ++ bs ++ drop (length bs) out
 over-after xs out [] p e h = ap (λ ys. ys ++ out) (sym (append-nil xs))

@@ -2,6 +2,7 @@
 use Prim.Native.Nat.{ℕ}
 use mathlib.Core.Path.{_≡_}
 use mathlib.Core.List.{List, map}
+use lib.ListN.{length}
 use Rattle.std.specs.shelf.Lists.{joined}
 use Rattle.drawing.specs.Sets.{In}
 use Rattle.drawing.specs.Values.{Binary}
@@ -20,3 +21,7 @@ Satisfies value m = (b : Block) → In b (m .blocks) → value (b .out) ≡ bloc
 -- whatever values satisfy the cell list, its outputs have what the netlist answers to its inputs
 abbrev pub Means : Netlist → Type 0
 Means n = (value : List ℕ → ℕ) → let m = readModel (wholeText n) in Satisfies value m → Binary (map value (m .inputs)) → map value (m .outputs) ≡ answers n (map value (m .inputs))
+
+-- and every row of values of the inputs has values that satisfy it
+abbrev pub HasMeaning : Netlist → Type 0
+HasMeaning n = (row : List ℕ) → Binary row → length row ≡ length (n .inputs) → let m = readModel (wholeText n) in (value : List ℕ → ℕ) × Satisfies value m × (map value (m .inputs) ≡ row)

@@ -7,12 +7,16 @@ use cells::cell::Cell;
 use cells::cover::Cover;
 use drawing::refusal::Refusal;
 ghost use Prim.Native.Nat.{_*_, _+_, _<_, _≤_, _^_};
-ghost use Rattle.blif.specs.Meaning.{Means};
+ghost use Rattle.blif.specs.Meaning.{HasMeaning, Means};
 ghost use Rattle.blif.specs.Put.{Wrote};
 ghost use Rattle.blif.specs.Sections.{sectionAnswer, sectionCount, sectionText, sectionWrites};
 ghost use Rattle.blif.specs.Text.{cellText, headText, leafDigits, line, nodeNames, outputNames, outputText, tableLines};
+<<<<<<< HEAD
 ghost use Rattle.cells.specs.Limits.{mostInputs, tableBits};
 ghost use Rattle.drawing.specs.Drawing.{mostLeaves};
+=======
+ghost use Rattle.cells.specs.Limits.{mostInputs, mostLeaves};
+>>>>>>> cells
 ghost use Rattle.cells.specs.Netlists.{netlistOf};
 ghost use Rattle.drawing.specs.Drawing.{mostNodes, mostOutputs, nodeOf};
 ghost use lib.ListN.{length};
@@ -147,10 +151,12 @@ fn put_head(out: &mut [u8], at: usize, inputs: &[u8], outputs: usize) -> usize
 /// How many sections the cell list of a cover has: the head, each cell, each output, the end.
 ///
 /// Read as BLIF, all of them together mean the cover: whatever values of the names satisfy every block
-/// of the text, the outputs have what the cover answers to the inputs.
+/// of the text, the outputs have what the cover answers to the inputs, and every row of the inputs has
+/// such values.
 pub fn sections(cover: &Cover) -> usize
     ensures count { λ r. ⌜ r ≡ sectionCount (netlistOf (now (cover .entry))) ⌝ }
     ensures means { λ _. ⌜ Means (netlistOf (now (cover .entry))) ⌝ }
+    ensures stands { λ _. ⌜ HasMeaning (netlistOf (now (cover .entry))) ⌝ }
 {
     2 + cover.cells().len() + cover.outputs().len()
 }

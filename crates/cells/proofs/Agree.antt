@@ -1,36 +1,42 @@
 -- A lawful netlist that covers a drawing has the drawing's values.
-use Prim.Native.Nat.{ℕ, zero, suc, _+_, _-_, _*_, _/_, _%_, _^_, _≤_, _<_}
+use Prim.Native.Nat.{ℕ, zero, suc, _+_, _*_, _/_, _%_, _≤_, _<_}
 use mathlib.Core.Path.{_≡_, refl, sym, ap, subst, _∙_}
-use mathlib.Core.Logic.{_⊎_, inl, inr, ⊎-elim}
-use mathlib.Core.Bool.{Bool, true, false, cond, _&&_, _||_}
-use mathlib.Core.List.{List, [], _∷_, _++_, map}
+use mathlib.Core.Logic.{inl, inr, ⊎-elim}
+use mathlib.Core.Bool.{true, false, cond, _||_}
+use mathlib.Core.List.{List, [], _∷_, map}
 use native.Mathlib.Nat.{add-mul-mod-self-left, mod-eq-of-lt}
 use native.Mathlib.Omega.{arith}
-use lib.Bits.{bitAnd}
-use lib.Dec.{eqb, leb, ltb}
+use lib.Dec.{eqb}
 use lib.ListN.{length, getD, take}
 use Rattle.std.proofs.shelf.Lists.{getD-take, getD-past, length-take}
-use Rattle.std.proofs.shelf.Tests.{cases-lt, cases-eq, cases-bool, eqb-true, eq-eqb, ne-eqb, cond-true, cond-false, cond-both, both-ways, and-parts, or-cases, or-parts, or-left, or-right, leb-true}
+use Rattle.std.proofs.shelf.Tests.{cases-lt, cases-eq, cases-bool, eqb-true, eq-eqb, ne-eqb, cond-true, cond-false, cond-both, both-ways, and-parts, or-cases, or-parts, or-left, leb-true}
 use Rattle.drawing.specs.declared.node.Node.{Node}
 use Rattle.drawing.specs.declared.node.Node.the-variants.{Constant, Input, Gate}
-use Rattle.drawing.specs.declared.node.Pair.{Pair}
 use Rattle.drawing.specs.Sets.{every, mem, In}
 use Rattle.drawing.specs.Column.{column}
-use Rattle.drawing.specs.Drawing.{Drawing, at, nodeOf, fanins, isGate, isConstant, sound}
-use Rattle.drawing.specs.Values.{Binary, turned, literal, valuing, inputsOf, lookup, bound, values, outputValues}
+use Rattle.drawing.specs.Drawing.{at, nodeOf, fanins, isGate, sound}
+use Rattle.drawing.specs.Values.{Binary, turned, literal, valuing, inputsOf, lookup, bound, values}
 use Rattle.drawing.proofs.Members.{every-in}
-use Rattle.drawing.proofs.ColumnLaws.{column-at, length-lower, length-column}
-use Rattle.drawing.proofs.Sound.{gate-of, constant-of, sound-at, sound-some, fanins-below}
+use Rattle.drawing.proofs.ColumnLaws.{column-at, length-lower}
+use Rattle.drawing.proofs.Sound.{fanins-below}
 use Rattle.drawing.proofs.ValueLaws.{literal-small, values-small, first-constant, first-value}
 use Rattle.drawing.proofs.InputLaws.{input-at}
 use Rattle.cuts.specs.Cuts.{closes, cut, closesFanins}
-use Rattle.cuts.proofs.Closing.{Closed, zeroth, member, through, closes-range, closes-ways, closes-by}
+use Rattle.cuts.proofs.Closing.{zeroth, member, through, closes-range, closes-ways, closes-by}
 use Rattle.cells.specs.declared.cell.Cell.{Cell}
+<<<<<<< HEAD
 use Rattle.drawing.specs.Drawing.{mostLeaves}
 use Rattle.cells.specs.Truth.{bit, leafBits, unset, coning, cone, tableOf}
 use Rattle.cells.specs.Netlist.{Netlist, leavesOf, plain, rootName, rowOf, cellValue, look, after, settled, outputValue, answers}
 use Rattle.cells.specs.Laws.{known, cellLawful, namesAfter, cellsLawful, outputLawful, namesOf, lawfulCover}
 use Rattle.cells.specs.Covers.{Suits, AllSuit, Covers, Covers-agree}
+=======
+use Rattle.cells.specs.Limits.{mostLeaves}
+use Rattle.cells.specs.Truth.{bit, leafBits, unset, coning}
+use Rattle.cells.specs.Netlist.{leavesOf, plain, rootName, rowOf, cellValue, look, after, settled, outputValue}
+use Rattle.cells.specs.Laws.{cellLawful, namesAfter, cellsLawful, outputLawful, namesOf}
+use Rattle.cells.specs.Covers.{Suits, AllSuit, Covers-agree}
+>>>>>>> cells
 use Rattle.cells.proofs.Tables.{table-row}
 use Rattle.cells.proofs.LeafRows.{row-lt}
 use Rattle.cells.proofs.Names.{mem-plain}

@@ -1,8 +1,8 @@
 -- What the laws of a cover say, and that one more input, cell or output keeps them.
-use Prim.Native.Nat.{ℕ, zero, suc, _+_, _≤_, _<_}
-use mathlib.Core.Path.{_≡_, refl, sym, ap, subst, _∙_}
-use mathlib.Core.Logic.{_⊎_, inl, inr, ⊎-elim}
-use mathlib.Core.Bool.{Bool, true, false, not, _&&_, _||_}
+use Prim.Native.Nat.{ℕ, _≤_, _<_}
+use mathlib.Core.Path.{_≡_, refl, ap, subst, _∙_}
+use mathlib.Core.Logic.{⊎-elim}
+use mathlib.Core.Bool.{true, false, not, _&&_}
 use mathlib.Core.List.{List, [], _∷_, _++_, map}
 use native.Mathlib.Omega.{arith}
 use lib.Dec.{eqb, ltb, leb}
@@ -10,14 +10,14 @@ use lib.ListN.{length}
 use Rattle.std.proofs.shelf.Lists.{map-push}
 use Rattle.std.proofs.shelf.Tests.{and-parts, and-from, or-cases, or-left, or-right, le-leb, lt-ltb, eqb-true, not-from-false}
 use Rattle.drawing.specs.declared.node.Node.{Node}
-use Rattle.drawing.specs.Sets.{every, mem, rises, below, In}
+use Rattle.drawing.specs.Sets.{every, mem, rises, below}
 use Rattle.drawing.specs.Drawing.{nodeOf, mostNodes}
 use Rattle.drawing.proofs.Members.{every-in, in-every, in-append}
 use Rattle.drawing.proofs.Lists.{every-push, rises-push}
 use Rattle.cells.specs.declared.cell.Cell.{Cell}
 use Rattle.drawing.specs.Drawing.{mostLeaves}
 use Rattle.cells.specs.Truth.{filled}
-use Rattle.cells.specs.Netlist.{Netlist, netlist, emptyNetlist, withInput, withCell, withOutput, leavesOf, cellOf, plain, rootName}
+use Rattle.cells.specs.Netlist.{Netlist, emptyNetlist, withInput, withCell, withOutput, leavesOf, cellOf, plain, rootName}
 use Rattle.cells.specs.Laws.{known, cellLawful, namesAfter, cellsLawful, outputLawful, rootsOf, namesOf, numbered, lawfulCover}
 use Rattle.cells.specs.Covers.{Suits, AllSuit}
 use Rattle.drawing.proofs.SetLaws.{below-says}

@@ -1,11 +1,11 @@
 -- The row that the leaves' values make, leaf by leaf from the last.
-use Prim.Native.Nat.{ℕ, zero, suc, _+_, _-_, _*_, _/_, _%_, _^_, _≤_, _<_}
+use Prim.Native.Nat.{ℕ, _+_, _-_, _*_, _%_, _^_, _≤_, _<_}
 use mathlib.Core.Path.{_≡_, refl, sym, ap, subst, _∙_}
 use mathlib.Core.List.{List, [], _∷_}
 use native.Mathlib.Numerals.{add-one}
 use native.Mathlib.Omega.{arith}
 use lib.Bits.{bitOr}
-use lib.ListN.{length, getD, drop, take}
+use lib.ListN.{length, getD, drop}
 use lib.Pow.{pow-mono}
 use Rattle.std.proofs.shelf.Bits.{shl-whole, or-shifted}
 use Rattle.std.proofs.shelf.Lists.{drop-more, drop-all, length-drop, length-take, getD-take}

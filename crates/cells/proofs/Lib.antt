@@ -9,3 +9,4 @@ pub mod Buffers
 pub mod Bytes
 pub mod Settle
 pub mod Names
+pub mod Examples

@@ -1,8 +1,8 @@
 -- What a mapper shows of the pieces that it adds: nodes that have a name, and cells that suit.
-use Prim.Native.Nat.{ℕ, _*_}
-use mathlib.Core.Path.{_≡_, refl, sym, ap, subst, _∙_}
+use Prim.Native.Nat.{ℕ}
+use mathlib.Core.Path.{_≡_, refl, sym, ap, _∙_}
 use mathlib.Core.Logic.{_⊎_, inl, inr, ⊎-elim}
-use mathlib.Core.Bool.{Bool, true, false, _&&_, _||_}
+use mathlib.Core.Bool.{true, false}
 use mathlib.Core.List.{List, [], _∷_, map}
 use native.Mathlib.Omega.{arith}
 use lib.Dec.{eqb}
@@ -12,7 +12,7 @@ use Rattle.drawing.specs.Sets.{mem}
 use Rattle.cuts.specs.Cuts.{closes}
 use Rattle.cells.specs.declared.cell.Cell.{Cell}
 use Rattle.cells.specs.Truth.{tableOf}
-use Rattle.cells.specs.Netlist.{Netlist, leavesOf, cellOf, plain, rootName}
+use Rattle.cells.specs.Netlist.{Netlist, cellOf, plain, rootName}
 use Rattle.cells.specs.Laws.{namesAfter, rootsOf, namesOf}
 use Rattle.cells.specs.Covers.{Suits}
 use Rattle.cells.proofs.Tables.{leaves-of-cell}

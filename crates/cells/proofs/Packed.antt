@@ -1,6 +1,6 @@
 -- A number made of bits: one bit more, its size, and each bit.
-use mathlib.Core.Path.{_≡_, refl, sym, ap, subst, _∙_}
-use mathlib.Core.Logic.{_⊎_, inl, inr, ⊎-elim}
+use mathlib.Core.Path.{_≡_, refl, sym, ap, _∙_}
+use mathlib.Core.Logic.{⊎-elim}
 use Prim.Native.Nat.{ℕ, zero, suc, _+_, _-_, _*_, _/_, _%_, _^_, _≤_, _<_}
 use native.Mathlib.Nat.{add-comm, mul-assoc, add-mul-div-right, add-mul-mod-self-right, mod-eq-of-lt, div-eq-of-lt}
 use native.Mathlib.Numerals.{add-one, one-add}

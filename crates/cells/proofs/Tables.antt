@@ -1,9 +1,9 @@
 -- The laws of a cell's table: each bit, and that it is filled.
-use Prim.Native.Nat.{ℕ, zero, suc, _+_, _*_, _/_, _%_, _^_, _≤_, _<_}
-use mathlib.Core.Path.{_≡_, refl, sym, ap, _∙_}
+use Prim.Native.Nat.{ℕ, _/_, _%_, _^_, _≤_, _<_}
+use mathlib.Core.Path.{_≡_, refl, sym, _∙_}
 use mathlib.Core.Logic.{⊎-elim}
-use mathlib.Core.Bool.{true, cond}
-use mathlib.Core.List.{List, [], _∷_, _++_}
+use mathlib.Core.Bool.{true}
+use mathlib.Core.List.{List, [], _∷_}
 use native.Mathlib.Omega.{arith}
 use lib.Dec.{eqb, ltb}
 use lib.ListN.{length, drop, replicate}
@@ -11,14 +11,19 @@ use lib.Pow.{pow-mono}
 use Rattle.std.specs.Iters.{counting}
 use Rattle.std.proofs.shelf.Bits.{mod-below}
 use Rattle.std.proofs.shelf.Lists.{take-at}
-use Rattle.std.proofs.shelf.Tests.{cond-both, cond-true, cond-false, lt-ltb, le-ltb, eq-eqb, cases-lt, ltb-true}
+use Rattle.std.proofs.shelf.Tests.{cond-both, cond-true, cond-false, lt-ltb, le-ltb, eq-eqb, cases-lt}
 use Rattle.drawing.specs.declared.node.Node.{Node}
 use Rattle.drawing.specs.Values.{lookup}
 use Rattle.drawing.proofs.Members.{in-every, counting-in}
 use Rattle.drawing.proofs.ValueLaws.{binary-column, valuing-small}
+<<<<<<< HEAD
 use Rattle.cells.specs.Limits.{tableBits}
 use Rattle.drawing.specs.Drawing.{mostLeaves}
 use Rattle.cells.specs.Truth.{bit, leafBits, unset, coning, cone, packed, tableBit, tableOf, filled}
+=======
+use Rattle.cells.specs.Limits.{mostLeaves, tableBits}
+use Rattle.cells.specs.Truth.{bit, leafBits, unset, coning, cone, tableBit, tableOf, filled}
+>>>>>>> cells
 use Rattle.cells.specs.Netlist.{leavesOf, cellOf}
 use Rattle.cells.proofs.Packed.{bit-packed, bit-above}
 

@@ -14,7 +14,7 @@ use Rattle.cells.specs.Netlist.{Netlist, leavesOf, plain, rootName}
 abbrev pub known : List ℕ → List ℕ → Bool
 known names nodes = every (λ n. mem (plain n) names) nodes
 
--- a cell has at most five leaves, which rise and are known before it; its root is no input, and its table is filled
+-- a cell has no more leaves than it may, and they rise and are known before it; its root is no input, and its table is filled
 abbrev pub cellLawful : List ℕ → List ℕ → Cell → Bool
 cellLawful inputs names c =
     leb (c .count) mostLeaves && not (mem (c .root) inputs) && rises 0 (leavesOf c) && known names (leavesOf c)

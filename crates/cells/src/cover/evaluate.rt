@@ -53,7 +53,7 @@ fn bind_inputs(inputs: &[u8], row: &[u8]) -> [u8; 512]
     ensures small { λ r. ⌜ Binary r ⌝ }
 {
     let mut values = [0u8; 512];
-    // an input with two places would have the value of the first
+    // backwards, so that of two values of one name the first stays
     for i in (0..inputs.len()).rev() {
         values[2 * inputs[i] as usize] = row[i];
     }

@@ -1,4 +1,4 @@
-use mathlib.Core.Path.{_≡_, refl, sym, _∙_}
+use mathlib.Core.Path.{refl, sym, _∙_}
 use Rattle.std.proofs.shelf.Lists.{set-past}
 use Rattle.blif.proofs.put.put.Needs as need
 use Rattle.blif.proofs.put.put.Needs.{then-at-out, else-at-out}

@@ -1,10 +1,9 @@
-use mathlib.Core.Path.{_≡_, refl, sym, ap, subst, _∙_}
-use mathlib.Core.Bool.{true}
-use mathlib.Core.List.{List, []}
-use Prim.Native.Nat.{ℕ, _+_, _-_, _<_, _≤_}
+use mathlib.Core.Path.{sym, ap, _∙_}
+use mathlib.Core.List.{[]}
+use Prim.Native.Nat.{_-_}
 use native.Mathlib.Omega.{arith}
 use lib.Dec.{ltb}
-use lib.ListN.{length, getD, length-take}
+use lib.ListN.{length, getD}
 use Rattle.std.proofs.shelf.Lists.{length-take-le}
 use Rattle.std.proofs.shelf.Tests.{ltb-true}
 use Rattle.drawing.specs.Sets.{every}
@@ -15,7 +14,7 @@ use Rattle.cells.specs.declared.cover.Cover.{Cover}
 use Rattle.cells.specs.Netlist.{Netlist}
 use Rattle.cells.specs.Netlists.{netlistOf}
 use Rattle.cells.proofs.Laws.{cover-outputs}
-use Rattle.blif.specs.Text.{cellText, outputText, headText}
+use Rattle.blif.specs.Text.{cellText, outputText}
 use Rattle.blif.proofs.Wrote.{wrote-is}
 use Rattle.blif.proofs.Texts.{section-count, section-cell, section-output, section-end}
 use Rattle.blif.proofs.section.put_section.Needs as need

@@ -1,6 +1,5 @@
-use mathlib.Core.Path.{_≡_, refl, sym, ap, subst, _∙_}
-use mathlib.Core.List.{List}
-use Prim.Native.Nat.{ℕ, _+_, _*_, _<_, _≤_, _/_, _%_, _^_}
+use mathlib.Core.Path.{_≡_, sym, ap, _∙_}
+use Prim.Native.Nat.{_*_, _<_, _≤_, _/_, _%_, _^_}
 use native.Mathlib.Omega.{arith}
 use lib.Pow.{pow-mono}
 use Rattle.std.proofs.shelf.Bits.{and-mask, one-shl}
@@ -9,7 +8,6 @@ use Rattle.cells.specs.Limits.{tableBits}
 use Rattle.drawing.specs.Drawing.{mostLeaves}
 use Rattle.cells.specs.Truth.{bit}
 use Rattle.cells.proofs.Packed.{row-below}
-use Rattle.blif.specs.Put.{Wrote}
 use Rattle.blif.proofs.Wrote.{wrote-then, wrote-is, wrote-at}
 use Rattle.blif.proofs.Texts.{linesTo, lines-with, lines-without}
 use Rattle.blif.proofs.section.put_table.Needs as need

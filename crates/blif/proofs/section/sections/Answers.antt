@@ -1,9 +1,10 @@
-use mathlib.Core.Path.{_≡_, sym, ap, _∙_}
+use mathlib.Core.Path.{ap}
 use native.Mathlib.Omega.{arith}
 use lib.ListN.{length}
 use Rattle.cells.specs.declared.cover.Cover.{Cover}
 use Rattle.cells.specs.Netlists.{netlistOf}
 use Rattle.blif.proofs.Meanings.{means}
+use Rattle.blif.proofs.Modelled.{has-meaning}
 use Rattle.blif.proofs.Texts.{section-count}
 use Rattle.blif.proofs.section.sections.Needs as need
 
@@ -13,4 +14,4 @@ returns c =
     let h = section-count (netlistOf s) in
     let a = ap length (c .cells .ensures) in
     let b = ap length (c .outputs .ensures) in
-    record { count = omega arith; means = means (netlistOf s) (s .law) }
+    record { count = omega arith; means = means (netlistOf s) (s .law); stands = has-meaning (netlistOf s) (s .law) }

@@ -1,11 +1,11 @@
-use mathlib.Core.Path.{_≡_, refl, sym, ap, _∙_}
+use mathlib.Core.Path.{_≡_, sym, ap, _∙_}
 use mathlib.Core.Logic.{⊎-elim}
-use Prim.Native.Nat.{ℕ, _-_, _*_, _%_, _^_, _<_, _≤_}
+use Prim.Native.Nat.{_-_, _*_, _%_, _^_, _<_, _≤_}
 use native.Mathlib.Omega.{arith}
 use lib.Bits.{bitAnd}
 use Rattle.std.proofs.shelf.Bits.{and-mask, one-shl}
 use Rattle.std.proofs.shelf.Tests.{cases-lt}
-use Rattle.cells.specs.Truth.{bit, tableBit}
+use Rattle.cells.specs.Truth.{bit}
 use Rattle.cells.proofs.Tables.{table-bit-row, table-bit-above}
 use Rattle.cells.proofs.Words.{bit-mod-low, bit-mod-high}
 use Rattle.cells.proofs.table.fill.Needs as need

@@ -1,5 +1,5 @@
-use mathlib.Core.Path.{_≡_, sym, ap, _∙_}
-use Prim.Native.Nat.{ℕ, _/_}
+use mathlib.Core.Path.{sym, ap, _∙_}
+use Prim.Native.Nat.{_/_}
 use Rattle.std.proofs.shelf.Lists.{getD-map}
 use Rattle.drawing.specs.Values.{turned}
 use Rattle.cells.specs.Truth.{bit}

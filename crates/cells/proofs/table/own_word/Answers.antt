@@ -1,5 +1,4 @@
-use mathlib.Core.Path.{_≡_, sym, ap, _∙_}
-use Prim.Native.Nat.{ℕ}
+use mathlib.Core.Path.{_∙_}
 use Rattle.cells.proofs.Words.{bit-and}
 use Rattle.cells.proofs.table.own_word.Needs as need
 

@@ -1,9 +1,8 @@
-use mathlib.Core.Path.{_≡_, refl, sym, ap, subst, _∙_}
+use mathlib.Core.Path.{_≡_, sym, subst}
 use mathlib.Core.Bool.{true}
 use Prim.Native.Nat.{_<_}
 use Rattle.drawing.specs.Sets.{below}
 use Rattle.cells.specs.declared.cell.Cell.{Cell}
-use Rattle.cells.specs.Netlist.{cellOf}
 use Rattle.cells.specs.Netlists.{netlistOf}
 use Rattle.cells.specs.Laws.{cellLawful, namesOf, rootsOf}
 use Rattle.cells.proofs.Laws.{gate-lawful}

@@ -1,4 +1,4 @@
-use mathlib.Core.Path.{_≡_, sym, _∙_}
+use mathlib.Core.Path.{sym, _∙_}
 use native.Mathlib.Omega.{arith}
 use Rattle.cells.proofs.Bytes.{above-here, above-past, above-end}
 use Rattle.cells.proofs.cover.evaluate.first_above_one.Needs as need
