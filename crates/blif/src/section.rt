@@ -11,12 +11,8 @@ ghost use Rattle.blif.specs.Meaning.{HasMeaning, Means};
 ghost use Rattle.blif.specs.Put.{Wrote};
 ghost use Rattle.blif.specs.Sections.{sectionAnswer, sectionCount, sectionText, sectionWrites};
 ghost use Rattle.blif.specs.Text.{cellText, headText, leafDigits, line, nodeNames, outputNames, outputText, tableLines};
-<<<<<<< HEAD
-ghost use Rattle.cells.specs.Limits.{mostInputs, tableBits};
+ghost use Rattle.cells.specs.Limits.{mostInputs};
 ghost use Rattle.drawing.specs.Drawing.{mostLeaves};
-=======
-ghost use Rattle.cells.specs.Limits.{mostInputs, mostLeaves};
->>>>>>> cells
 ghost use Rattle.cells.specs.Netlists.{netlistOf};
 ghost use Rattle.drawing.specs.Drawing.{mostNodes, mostOutputs, nodeOf};
 ghost use lib.ListN.{length};

@@ -24,19 +24,11 @@ use Rattle.drawing.proofs.InputLaws.{input-at}
 use Rattle.cuts.specs.Cuts.{closes, cut, closesFanins}
 use Rattle.cuts.proofs.Closing.{zeroth, member, through, closes-range, closes-ways, closes-by}
 use Rattle.cells.specs.declared.cell.Cell.{Cell}
-<<<<<<< HEAD
 use Rattle.drawing.specs.Drawing.{mostLeaves}
-use Rattle.cells.specs.Truth.{bit, leafBits, unset, coning, cone, tableOf}
-use Rattle.cells.specs.Netlist.{Netlist, leavesOf, plain, rootName, rowOf, cellValue, look, after, settled, outputValue, answers}
-use Rattle.cells.specs.Laws.{known, cellLawful, namesAfter, cellsLawful, outputLawful, namesOf, lawfulCover}
-use Rattle.cells.specs.Covers.{Suits, AllSuit, Covers, Covers-agree}
-=======
-use Rattle.cells.specs.Limits.{mostLeaves}
 use Rattle.cells.specs.Truth.{bit, leafBits, unset, coning}
 use Rattle.cells.specs.Netlist.{leavesOf, plain, rootName, rowOf, cellValue, look, after, settled, outputValue}
 use Rattle.cells.specs.Laws.{cellLawful, namesAfter, cellsLawful, outputLawful, namesOf}
 use Rattle.cells.specs.Covers.{Suits, AllSuit, Covers-agree}
->>>>>>> cells
 use Rattle.cells.proofs.Tables.{table-row}
 use Rattle.cells.proofs.LeafRows.{row-lt}
 use Rattle.cells.proofs.Names.{mem-plain}

@@ -16,14 +16,9 @@ use Rattle.drawing.specs.declared.node.Node.{Node}
 use Rattle.drawing.specs.Values.{lookup}
 use Rattle.drawing.proofs.Members.{in-every, counting-in}
 use Rattle.drawing.proofs.ValueLaws.{binary-column, valuing-small}
-<<<<<<< HEAD
 use Rattle.cells.specs.Limits.{tableBits}
 use Rattle.drawing.specs.Drawing.{mostLeaves}
-use Rattle.cells.specs.Truth.{bit, leafBits, unset, coning, cone, packed, tableBit, tableOf, filled}
-=======
-use Rattle.cells.specs.Limits.{mostLeaves, tableBits}
 use Rattle.cells.specs.Truth.{bit, leafBits, unset, coning, cone, tableBit, tableOf, filled}
->>>>>>> cells
 use Rattle.cells.specs.Netlist.{leavesOf, cellOf}
 use Rattle.cells.proofs.Packed.{bit-packed, bit-above}
 

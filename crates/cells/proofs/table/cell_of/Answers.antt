@@ -4,13 +4,7 @@ use Prim.Native.Nat.{ℕ, _+_}
 use native.Mathlib.Omega.{arith}
 use lib.ListN.{length, take, drop, getD, replicate}
 use Rattle.std.proofs.shelf.Lists.{length-take-le, take-more, take-all}
-<<<<<<< HEAD
-use Rattle.cells.specs.declared.cell.Cell.{Cell}
 use Rattle.drawing.specs.Drawing.{mostLeaves}
-use Rattle.cells.specs.Netlist.{cellOf}
-=======
-use Rattle.cells.specs.Limits.{mostLeaves}
->>>>>>> cells
 use Rattle.cells.proofs.Buffers.{put-more}
 use Rattle.cells.proofs.table.cell_of.Needs as need
 

@@ -1,0 +1,3 @@
+//! From a text to its cell list.
+
+pub mod listing;
