@@ -1,18 +1,16 @@
 -- An accepted text is the text of its drawing, and the drawing is lawful.
 use mathlib.Core.Path.{_≡_, refl, sym, ap, subst, _∙_}
-use mathlib.Core.Bool.{Bool, true, false, cond, not, _&&_}
+use mathlib.Core.Bool.{Bool, true, false, cond}
 use mathlib.Core.Logic.{⊎-elim}
-use mathlib.Core.List.{List, [], _∷_, _++_, map, append-assoc, append-nil}
-use Prim.Native.Nat.{ℕ, zero, suc, pred, _+_, _-_, _*_, _/_, _%_, _≤_, _<_}
+use mathlib.Core.List.{List, [], _∷_, _++_, append-assoc, append-nil}
+use Prim.Native.Nat.{ℕ, zero, suc, pred, _+_, _*_, _/_, _%_, _≤_, _<_}
 use native.Mathlib.Omega.{arith}
-use lib.Dec.{eqb, ltb}
-use lib.ListN.{length, getD, set, replicate}
+use lib.Dec.{eqb}
+use lib.ListN.{length, getD, replicate}
 use Rattle.std.specs.shelf.Lists.{joined}
-use Rattle.std.proofs.shelf.Lists.{length-set, length-push, length-append, length-map, length-replicate, getD-replicate, getD-past, getD-push, getD-append-left, joined-more, map-push}
+use Rattle.std.proofs.shelf.Lists.{length-set, length-push, length-replicate, getD-replicate, getD-past, joined-more, map-push}
 use Rattle.std.proofs.shelf.Tests.{and-parts, eqb-true, ltb-true, leb-true, not-true, cases-lt}
-use Rattle.std.specs.declared.option.Option.{Option}
-use Rattle.std.specs.declared.option.Option.the-variants.{Some, None}
-use Rattle.std.specs.declared.result.Result.{Result}
+use Rattle.std.specs.declared.option.Option.the-variants.{None}
 use Rattle.std.specs.declared.result.Result.the-variants.{Ok, Err}
 use Rattle.drawing.specs.declared.node.Node.{Node}
 use Rattle.drawing.specs.declared.node.Node.the-variants.{Constant, Input, Gate}
@@ -22,11 +20,11 @@ use Rattle.drawing.specs.Sets.{In}
 use Rattle.drawing.specs.Drawing.{Drawing, drawing, nodeOf, isInput, soundAt, lawful}
 use Rattle.drawing.proofs.Members.{in-append}
 use Rattle.drawing.proofs.Sound.{sound-by}
-use Rattle.drawing.proofs.Lawful.{Lawfully, says-lawful}
+use Rattle.drawing.proofs.Lawful.{says-lawful}
 use Rattle.aiger.specs.Text.{lineOf, inputRow, gateRow, rows, outputRows, body, heading, word, text}
-use Rattle.aiger.specs.Reads.{Scan, broken, whole, scan, Sheet, headed, follows, fits, add, Outcome, fault, after, readLines, plan, blank, readHeading, readWord, read}
+use Rattle.aiger.specs.Reads.{Scan, broken, whole, scan, Sheet, headed, follows, fits, add, Outcome, after, readLines, plan, blank, readHeading, readWord, read}
 use Rattle.aiger.proofs.Lines.{scan-back}
-use Rattle.aiger.proofs.Rows.{over-set, rows-none, rows-put, rows-keep, plain, rows-count, plain-none, Stands, stands-sound}
+use Rattle.aiger.proofs.Rows.{over-set, rows-none, rows-put, rows-keep, rows-count, plain-none, Stands, stands-sound}
 
 -- What is kept while lines are read.
 

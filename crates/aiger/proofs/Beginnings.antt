@@ -1,10 +1,10 @@
 -- Beginnings of texts: a byte that breaks the pattern breaks it whatever follows, and where a text ends early, so does
 -- each beginning of it.
-use mathlib.Core.Path.{_≡_, refl, sym, ap, subst, _∙_}
-use mathlib.Core.Bool.{Bool, true, false, cond}
+use mathlib.Core.Path.{_≡_, refl, sym, ap, _∙_}
+use mathlib.Core.Bool.{Bool, true, false}
 use mathlib.Core.Logic.{_⊎_, inl, inr, ⊎-elim}
 use mathlib.Core.List.{List, [], _∷_, _++_, append-assoc}
-use Prim.Native.Nat.{ℕ, _+_, _-_, _≤_, _<_}
+use Prim.Native.Nat.{ℕ, _+_, _-_, _<_}
 use native.Mathlib.Omega.{arith}
 use lib.Dec.{eqb}
 use lib.ListN.{length, take, drop}
@@ -12,14 +12,12 @@ use Rattle.std.proofs.shelf.Lists.{length-append, take-at, take-append-drop, le
 use Rattle.std.proofs.shelf.Tests.{cases-bool, cond-true, cond-false}
 use Rattle.std.specs.declared.option.Option.{Option}
 use Rattle.std.specs.declared.option.Option.the-variants.{Some, None}
-use Rattle.std.specs.declared.result.Result.the-variants.{Ok, Err}
+use Rattle.std.specs.declared.result.Result.the-variants.{Err}
 use Rattle.drawing.specs.declared.refusal.Fault.{Fault}
 use Rattle.drawing.specs.declared.refusal.Rule.the-variants.{Pattern, Figures, Literal}
-use Rattle.aiger.specs.declared.line.Act.{Act}
-use Rattle.aiger.specs.declared.line.Act.the-variants.{Digit, Space, Newline, Stop}
 use Rattle.aiger.specs.declared.reader.Part.{Part}
 use Rattle.aiger.specs.Text.{word}
-use Rattle.aiger.specs.Reads.{act, Scan, broken, whole, scan, Sheet, width, fits, add, headed, Outcome, fault, after, readLines, readWord, read}
+use Rattle.aiger.specs.Reads.{Act, Digit, Space, Newline, Stop, act, Scan, broken, whole, scan, Sheet, width, fits, add, headed, Outcome, fault, after, readLines, readWord, read}
 use Rattle.aiger.specs.Laws.{Breaks-for-good, Ends-early}
 use Rattle.aiger.proofs.Lines.{turn, scan-turn}
 use Rattle.aiger.proofs.Faults.{ok-err, same-fault}
@@ -102,11 +100,11 @@ module _ (s : List ℕ → Scan) (pos ln : ℕ) (ok : List ℕ → Bool) (g f : 
   abbrev reads : List ℕ → Outcome
   reads bs = after (s bs) ln ok (Err g) go
 
-  line-fails : (x : Scan) (bs : List ℕ) → Settled s bs pos x → after x ln ok (Err g) go ≡ Err f → f .byte < pos + length bs
+  line-halts : (x : Scan) (bs : List ℕ) → Settled s bs pos x → after x ln ok (Err g) go ≡ Err f → f .byte < pos + length bs
       → ((ns : List ℕ) (next : ℕ) (rest : List ℕ) → go ns next rest ≡ Err f → f .byte < next + length rest → Fails (go ns next) rest next f)
       → Fails reads bs pos f
-  line-fails (broken p) bs (inl h) e lt ih = let q : p ≡ f .byte = ap (λ x. x .byte) (same-fault _ f e) in absurd (omega arith)
-  line-fails (broken p) bs (inr h) e lt ih =
+  line-halts (broken p) bs (inl h) e lt ih = let q : p ≡ f .byte = ap (λ x. x .byte) (same-fault _ f e) in absurd (omega arith)
+  line-halts (broken p) bs (inr h) e lt ih =
       let q : p ≡ f .byte = ap (λ x. x .byte) (same-fault _ f e) in
       record {
         pre = h .pre;
@@ -116,7 +114,7 @@ module _ (s : List ℕ → Scan) (pos ln : ℕ) (ok : List ℕ → Bool) (g f : 
         place = sym q ∙ h .place;
         same = λ u. ap (λ x. after x ln ok (Err g) go) (h .same u) ∙ e;
       }
-  line-fails (whole ns next rest) bs h e lt ih =
+  line-halts (whole ns next rest) bs h e lt ih =
       ⊎-elim
       (λ (t : ok ns ≡ true).
       let r = ih ns next rest (sym (cond-true _ _ _ t) ∙ e) (omega (arith, h .place, ap length (h .split), length-append (h .pre) rest)) in
@@ -133,28 +131,28 @@ module _ (s : List ℕ → Scan) (pos ln : ℕ) (ok : List ℕ → Bool) (g f : 
       (λ (t : ok ns ≡ false). absurd (not-pattern f g (sym (cond-false _ _ _ t) ∙ e) is other))
       (cases-bool (ok ns))
 
-lines-fail : (ps : List Part) (sh : Sheet) (ln pos : ℕ) (bs : List ℕ) (f : Fault) → f .rule ≡ Pattern → readLines ps sh ln pos bs ≡ Err f → f .byte < pos + length bs → Fails (readLines ps sh ln pos) bs pos f
+lines-halt : (ps : List Part) (sh : Sheet) (ln pos : ℕ) (bs : List ℕ) (f : Fault) → f .rule ≡ Pattern → readLines ps sh ln pos bs ≡ Err f → f .byte < pos + length bs → Fails (readLines ps sh ln pos) bs pos f
 unfolding readLines
-lines-fail [] sh ln pos [] f is e lt = ok-err e
-lines-fail [] sh ln pos (b ∷ bs) f is e lt =
+lines-halt [] sh ln pos [] f is e lt = ok-err e
+lines-halt [] sh ln pos (b ∷ bs) f is e lt =
     let q : pos ≡ f .byte = ap (λ x. x .byte) (same-fault _ f e) in
     record { pre = []; byte = b; rest = bs; split = refl; place = omega arith; same = λ u. e }
-lines-fail (p ∷ ps) sh ln pos bs f is e lt =
-    line-fails (scan (width p) [] None pos) pos ln (fits p sh) _ f _ is (λ (z : Literal ≡ Pattern). let w : _≡_ {A = ℕ} 0 1 = cc in omega arith)
+lines-halt (p ∷ ps) sh ln pos bs f is e lt =
+    line-halts (scan (width p) [] None pos) pos ln (fits p sh) _ f _ is (λ (z : Literal ≡ Pattern). let w : _≡_ {A = ℕ} 0 1 = cc in omega arith)
     (scan (width p) [] None pos bs) bs (scan-settled (width p) [] None pos bs) e lt
-    (λ ns next rest h k. lines-fail ps (add p sh ns) (ln + 1) next rest f is h k)
+    (λ ns next rest h k. lines-halt ps (add p sh ns) (ln + 1) next rest f is h k)
 
-word-fails : (ws : List ℕ) (pos : ℕ) (bs : List ℕ) (f : Fault) → f .rule ≡ Pattern → readWord ws pos bs ≡ Err f → f .byte < pos + length bs → Fails (readWord ws pos) bs pos f
+word-halts : (ws : List ℕ) (pos : ℕ) (bs : List ℕ) (f : Fault) → f .rule ≡ Pattern → readWord ws pos bs ≡ Err f → f .byte < pos + length bs → Fails (readWord ws pos) bs pos f
 unfolding readWord
-word-fails [] pos bs f is e lt =
-    line-fails (scan 4 [] None pos) pos 0 headed _ f _ is (λ (z : Figures ≡ Pattern). let w : _≡_ {A = ℕ} 0 1 = cc in omega arith)
+word-halts [] pos bs f is e lt =
+    line-halts (scan 4 [] None pos) pos 0 headed _ f _ is (λ (z : Figures ≡ Pattern). let w : _≡_ {A = ℕ} 0 1 = cc in omega arith)
     (scan 4 [] None pos bs) bs (scan-settled 4 [] None pos bs) e lt
-    (λ ns next rest h k. lines-fail _ _ 1 next rest f is h k)
-word-fails (w ∷ ws) pos [] f is e lt = let q : pos ≡ f .byte = ap (λ x. x .byte) (same-fault _ f e) in absurd (omega arith)
-word-fails (w ∷ ws) pos (b ∷ bs) f is e lt =
+    (λ ns next rest h k. lines-halt _ _ 1 next rest f is h k)
+word-halts (w ∷ ws) pos [] f is e lt = let q : pos ≡ f .byte = ap (λ x. x .byte) (same-fault _ f e) in absurd (omega arith)
+word-halts (w ∷ ws) pos (b ∷ bs) f is e lt =
     ⊎-elim
     (λ (t : eqb b w ≡ true).
-    let r = word-fails ws (pos + 1) bs f is (sym (cond-true _ _ _ t) ∙ e) (omega arith) in
+    let r = word-halts ws (pos + 1) bs f is (sym (cond-true _ _ _ t) ∙ e) (omega arith) in
     record {
       pre = b ∷ r .pre;
       byte = r .byte;
@@ -172,7 +170,7 @@ word-fails (w ∷ ws) pos (b ∷ bs) f is e lt =
 pub breaks-for-good : Breaks-for-good
 unfolding read
 breaks-for-good t u f e is lt =
-    let r = word-fails word 0 t f is e (omega arith) in
+    let r = word-halts word 0 t f is e (omega arith) in
     let front = r .pre ++ r .byte ∷ [] in
     let size : length front ≡ f .byte + 1 = omega (arith, r .place, length-append (r .pre) (r .byte ∷ [])) in
     let cut : take (f .byte + 1) t ≡ front = ap (take (f .byte + 1)) (r .split ∙ sym (append-assoc (r .pre) (r .byte ∷ []) (r .rest))) ∙ take-at front (r .rest) (f .byte + 1) size in

@@ -1,8 +1,7 @@
 -- What the reader does at a byte, in each part.
-use mathlib.Core.Path.{_≡_, refl, sym, ap, subst, _∙_}
-use mathlib.Core.List.{List, [], _∷_, _++_}
-use Prim.Native.Nat.{ℕ, suc, _+_, _≤_, _<_}
-use native.Mathlib.Omega.{arith}
+use mathlib.Core.Path.{_≡_, refl, sym, ap, _∙_}
+use mathlib.Core.List.{List, [], _∷_}
+use Prim.Native.Nat.{ℕ, _+_, _≤_, _<_}
 use mathlib.Core.Logic.{⊎-elim}
 use lib.ListN.{drop}
 use Rattle.std.proofs.shelf.Lists.{drop-more}
@@ -14,11 +13,11 @@ use Rattle.aiger.specs.declared.line.Line.{Line}
 use Rattle.aiger.specs.declared.reader.Part.{Part}
 use Rattle.aiger.specs.declared.reader.Part.the-variants.{Header, Inputs, Outputs, Gates, End}
 use Rattle.aiger.specs.declared.reader.Reader.{Reader}
-use Rattle.drawing.specs.declared.refusal.Rule.the-variants.{Pattern, Figures, Literal}
+use Rattle.drawing.specs.declared.refusal.Rule.the-variants.{Pattern, Literal}
 use Rattle.aiger.specs.Text.{word}
 use Rattle.drawing.specs.Drawing.{drawing}
-use Rattle.aiger.specs.Reads.{Scan, whole, broken, scan, width, fits, add, after, fault, readLines, readHeading, readWord, plan}
-use Rattle.aiger.specs.States.{scanOn, goOn, goOnIn, drafted, done, rest, closing, Goes, Closes, Breaks, Fresh, FreshIn, Sound, Closed, Stepped, Steps, Ended}
+use Rattle.aiger.specs.Reads.{Scan, scan, fits, add, after, fault, readLines, readHeading, readWord, plan}
+use Rattle.aiger.specs.States.{brokenAt, scanOn, goOn, goOnIn, drafted, rest, closing, Closes, FreshIn, Sound, Steps, Ended}
 
 abbrev pub withLine : Reader → Line → Reader
 withLine r l = record { part = r .part; letters = r .letters; line = l; inputs = r .inputs; outputs = r .outputs; gates = r .gates; draft = r .draft }
@@ -39,14 +38,6 @@ module _ (r : Reader) where
   rest-on p m x y er es e =
       λ i. after (e i) (sym er i) (fits p (drafted (r .draft))) (fault Literal (sym es i) (sym er i)) (λ ns next bs. readLines (plan (r .inputs) (r .outputs) (r .gates)) (add p (drafted (r .draft)) ns) (sym er i + 1) next bs)
 
-  -- a byte within a line
-  goes-on : (p : Part) → Past p r → (b : ℕ) (m : Line) → Goes (r .line) b m → (bs : List ℕ) → goOnIn p r (b ∷ bs) ≡ goOnIn p (withLine r m) bs
-  goes-on Header h b m g bs = header-on h (b ∷ bs) ∙ ap readHeading (g .same bs) ∙ sym (cond-false _ _ _ (le-ltb (r .letters) 4 h))
-  goes-on Inputs h b m g bs = rest-on Inputs m _ _ (g .stays .row) (g .stays .start) (g .same bs)
-  goes-on Outputs h b m g bs = rest-on Outputs m _ _ (g .stays .row) (g .stays .start) (g .same bs)
-  goes-on Gates h b m g bs = rest-on Gates m _ _ (g .stays .row) (g .stays .start) (g .same bs)
-  goes-on End h b m g bs = absurd h
-
   -- the byte that ends it
   closes-on : (p : Part) → Past p r → (b : ℕ) (m : Line) → Closes (r .line) b m → (bs : List ℕ) → goOnIn p r (b ∷ bs) ≡ closing p (withLine r m) bs
   closes-on Header h b m g bs = header-on h (b ∷ bs) ∙ ap readHeading (g .same bs)
@@ -55,66 +46,17 @@ module _ (r : Reader) where
   closes-on Gates h b m g bs = rest-on Gates m _ _ (g .stays .row) (g .stays .start) (g .same bs)
   closes-on End h b m g bs = absurd h
 
-  -- a byte that breaks it
-  breaks-on : (p : Part) → Past p r → FreshIn p r → (b : ℕ) (f : Fault) → Breaks (r .line) b f → (bs : List ℕ) → goOnIn p r (b ∷ bs) ≡ Err f
-  breaks-on Header h fr b f g bs = header-on h (b ∷ bs) ∙ ap readHeading (g .same bs) ∙ ap (λ l. fault Pattern (r .line .pos) l) (sym (fr .row)) ∙ ap Err (sym (g .is))
-  breaks-on Inputs h fr b f g bs = ap (rest r Inputs) (g .same bs) ∙ ap Err (sym (g .is))
-  breaks-on Outputs h fr b f g bs = ap (rest r Outputs) (g .same bs) ∙ ap Err (sym (g .is))
-  breaks-on Gates h fr b f g bs = ap (rest r Gates) (g .same bs) ∙ ap Err (sym (g .is))
-  breaks-on End h fr b f g bs = absurd h
-
-  fresh-on : (p : Part) → Past p r → FreshIn p r → (m : Line) → m .row ≡ r .line .row → FreshIn p (withLine r m)
-  fresh-on Header h f m e =
-      record { row = e ∙ f .row; nodes = f .nodes; outputs = f .outputs; input = f .input; gate = f .gate; begun = λ lt. absurd (omega arith) }
-  fresh-on Inputs h f m e = tt
-  fresh-on Outputs h f m e = tt
-  fresh-on Gates h f m e = tt
-  fresh-on End h f m e = tt
-
-  module _ (s : Sound r) (past : Past (r .part) r) where
-    pub goes : (b : ℕ) (m : Line) → Goes (r .line) b m → Stepped r b (withLine r m)
-    goes b m g =
-        record {
-          sound = record {
-            fields = g .fields ∙ s .fields;
-            count = s .count;
-            outputs = s .outputs;
-            rows = omega (arith, s .rows, g .stays .row, g .stays .on);
-            fresh = fresh-on (r .part) past (s .fresh) m (g .stays .row);
-          };
-          on = g .stays .on;
-          same = goes-on (r .part) past b m g;
-        }
-
-    pub closed : (b : ℕ) (m : Line) → Closes (r .line) b m → Closed (withLine r m)
-    closed b m g =
-        record {
-          fields = omega (arith, g .fields, s .fields);
-          count = s .count;
-          outputs = s .outputs;
-          rows = omega (arith, s .rows, g .stays .row, g .stays .on);
-        }
-
-    pub closes : (b : ℕ) (m : Line) → Closes (r .line) b m → (bs : List ℕ) → goOn r (b ∷ bs) ≡ closing (r .part) (withLine r m) bs
-    closes b m g = closes-on (r .part) past b m g
-
-    pub breaks : (b : ℕ) (f : Fault) → Breaks (r .line) b f → (bs : List ℕ) → goOn r (b ∷ bs) ≡ Err f
-    breaks b f g = breaks-on (r .part) past (s .fresh) b f g
-
-    pub freshly : (m : Line) → m .row ≡ r .line .row → FreshIn (r .part) (withLine r m)
-    freshly m e = fresh-on (r .part) past (s .fresh) m e
-
 -- the line m was closed by the byte b, and then handled
-pub ends-line : (r s : Reader) (m : Line) (b : ℕ) (o : Result (Unit {0}) Fault) → Sound r → Past (r .part) r → b ≡ 10 → Closes (r .line) 10 m → Ended (withLine r m) o s → Steps r b o s
-ends-line r s m b (Ok u) sound past e g f =
+pub ends-line : (r s : Reader) (m : Line) (b : ℕ) (o : Result (Unit {0}) Fault) → Past (r .part) r → b ≡ 10 → Closes (r .line) 10 m → Ended (withLine r m) o s → Steps r b o s
+ends-line r s m b (Ok u) past e g f =
     record {
       sound = f .sound;
       on = f .on ∙ g .stays .on;
-      same = λ bs. ap (λ x. goOn r (x ∷ bs)) e ∙ closes r sound past 10 m g bs ∙ f .same bs;
+      same = λ bs. ap (λ x. goOn r (x ∷ bs)) e ∙ closes-on r (r .part) past 10 m g bs ∙ f .same bs;
     }
-ends-line r s m b (Err x) sound past e g f = λ bs. ap (λ x. goOn r (x ∷ bs)) e ∙ closes r sound past 10 m g bs ∙ f bs
+ends-line r s m b (Err x) past e g f = λ bs. ap (λ x. goOn r (x ∷ bs)) e ∙ closes-on r (r .part) past 10 m g bs ∙ f bs
 
-pub past-end : (r : Reader) (b : ℕ) (f : Fault) → r .part ≡ End → f ≡ record { rule = Pattern; byte = r .line .pos; line = r .line .row } → (bs : List ℕ) → goOn r (b ∷ bs) ≡ Err f
+pub past-end : (r : Reader) (b : ℕ) (f : Fault) → r .part ≡ End → f ≡ brokenAt (r .line) → (bs : List ℕ) → goOn r (b ∷ bs) ≡ Err f
 unfolding readLines
 past-end r b f e is bs = ap (λ q. goOnIn q r (b ∷ bs)) e ∙ ap Err (sym is)
 
@@ -134,9 +76,9 @@ ends-in r Outputs f ne = refl
 ends-in r Gates f ne = refl
 ends-in r End f ne = absurd (ne refl)
 
-pub ends-early : (r : Reader) (f : Fault) → Sound r → (r .part ≡ End → ⊥) → f ≡ record { rule = Pattern; byte = r .line .pos; line = r .line .row } → goOn r [] ≡ Err f
-ends-early r f s ne is = ends-in r (r .part) (s .fresh) ne ∙ ap Err (sym is)
+pub stops-early : (r : Reader) (f : Fault) → Sound r → (r .part ≡ End → ⊥) → f ≡ brokenAt (r .line) → goOn r [] ≡ Err f
+stops-early r f s ne is = ends-in r (r .part) (s .fresh) ne ∙ ap Err (sym is)
 
-pub ends-well : (r : Reader) → r .part ≡ End → goOn r [] ≡ Ok (drawing (drafted (r .draft) .nodes) (drafted (r .draft) .outputs))
+pub stops-well : (r : Reader) → r .part ≡ End → goOn r [] ≡ Ok (drawing (drafted (r .draft) .nodes) (drafted (r .draft) .outputs))
 unfolding readLines
-ends-well r e = ap (λ q. goOnIn q r []) e
+stops-well r e = ap (λ q. goOnIn q r []) e

@@ -1,23 +1,23 @@
 -- What the reader does at the end of a line.
-use mathlib.Core.Path.{_≡_, refl, sym, ap, subst, _∙_}
-use mathlib.Core.Bool.{true, false, cond, not, _&&_}
-use mathlib.Core.List.{List, [], _∷_, _++_}
-use Prim.Native.Nat.{ℕ, suc, _+_, _/_, _%_, _≤_, _<_}
+use mathlib.Core.Path.{_≡_, sym, ap, _∙_}
+use mathlib.Core.Bool.{true, false, _&&_}
+use mathlib.Core.List.{List, [], _∷_}
+use Prim.Native.Nat.{ℕ, suc, _+_, _<_}
 use native.Mathlib.Omega.{arith}
 use lib.Dec.{eqb, ltb, leb}
-use lib.ListN.{length, getD, set, take, drop}
+use lib.ListN.{getD, take}
 use Rattle.std.proofs.shelf.Lists.{getD-take, take-replicate}
 use Rattle.std.proofs.shelf.Tests.{cond-true, cond-false, and-parts, ltb-true}
-use Rattle.std.specs.declared.result.Result.the-variants.{Ok, Err}
+use Rattle.std.specs.declared.result.Result.the-variants.{Err}
 use Rattle.aiger.specs.declared.draft.Draft.{Draft}
 use Rattle.drawing.specs.declared.refusal.Fault.{Fault}
 use Rattle.drawing.specs.declared.node.Node.the-variants.{Constant}
 use Rattle.aiger.specs.declared.reader.Part.{Part}
-use Rattle.aiger.specs.declared.reader.Part.the-variants.{Header, Inputs, Outputs, Gates, End}
+use Rattle.aiger.specs.declared.reader.Part.the-variants.{Header, Inputs, Outputs, Gates}
 use Rattle.aiger.specs.declared.reader.Reader.{Reader}
-use Rattle.drawing.specs.declared.refusal.Rule.the-variants.{Pattern, Figures, Literal}
-use Rattle.aiger.specs.Reads.{whole, follows, width, headed, blank, Sheet, fits, add, fault, readLines, plan}
-use Rattle.aiger.specs.States.{goOn, goOnIn, drafted, done, rest, closing, Begins, Fresh}
+use Rattle.drawing.specs.declared.refusal.Rule.the-variants.{Figures}
+use Rattle.aiger.specs.Reads.{whole, headed, blank, Sheet, fits, add, fault, readLines, plan}
+use Rattle.aiger.specs.States.{misplacedIn, goOn, drafted, done, rest, closing, Begins, Fresh}
 
 abbrev pub withDraft : Reader → Draft → Reader
 withDraft r d = record { part = r .part; letters = r .letters; line = r .line; inputs = r .inputs; outputs = r .outputs; gates = r .gates; draft = d }
@@ -50,7 +50,7 @@ module _ (r : Reader) (p : Part) (ns : List ℕ) (same : Same p (drafted (r .dra
   line-passes d s good put b bs =
       cond-true _ _ _ (same .fit ∙ good) ∙ ap (λ x. readLines (plan (r .inputs) (r .outputs) (r .gates)) x (r .line .row + 1) (r .line .pos) bs) (same .put ∙ sym put) ∙ sym (b .same bs)
 
-  pub line-fails : (f : Fault) → fits p (drafted (r .draft)) ns ≡ false → f ≡ record { rule = Literal; byte = r .line .start; line = r .line .row } → (bs : List ℕ) → rest r p (whole (done (r .line)) (r .line .pos) bs) ≡ Err f
+  pub line-fails : (f : Fault) → fits p (drafted (r .draft)) ns ≡ false → f ≡ misplacedIn (r .line) → (bs : List ℕ) → rest r p (whole (done (r .line)) (r .line .pos) bs) ≡ Err f
   line-fails f bad is bs = cond-false _ _ _ (same .fit ∙ bad) ∙ ap Err (sym is)
 
 -- The header.

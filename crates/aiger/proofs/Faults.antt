@@ -3,7 +3,7 @@ use mathlib.Core.Path.{_≡_, refl, sym, ap, subst, _∙_}
 use mathlib.Core.Bool.{Bool, true, false, cond}
 use mathlib.Core.Logic.{_⊎_, inl, inr, ⊎-elim}
 use mathlib.Core.List.{List, [], _∷_, _++_, append-assoc}
-use Prim.Native.Nat.{ℕ, _+_, _-_, _≤_, _<_}
+use Prim.Native.Nat.{ℕ, _+_, _-_}
 use native.Mathlib.Omega.{arith}
 use lib.Dec.{eqb}
 use lib.ListN.{length, take}
@@ -13,15 +13,13 @@ use Rattle.std.proofs.shelf.Tests.{ne-eqb, eqb-true}
 use Rattle.std.specs.declared.option.Option.{Option}
 use Rattle.std.specs.declared.option.Option.the-variants.{Some, None}
 use Rattle.std.specs.declared.result.Result.the-variants.{Ok, Err}
-use Rattle.aiger.specs.declared.line.Act.{Act}
-use Rattle.aiger.specs.declared.line.Act.the-variants.{Digit, Space, Newline, Stop}
 use Rattle.drawing.specs.declared.refusal.Fault.{Fault}
 use Rattle.aiger.specs.declared.reader.Part.{Part}
-use Rattle.drawing.specs.declared.refusal.Rule.the-variants.{Pattern, Figures, Literal}
+use Rattle.drawing.specs.declared.refusal.Rule.the-variants.{Pattern, Figures}
 use Rattle.drawing.specs.Drawing.{Drawing}
 use Rattle.aiger.specs.Text.{word}
 use Rattle.aiger.specs.Laws.{ends, Placed}
-use Rattle.aiger.specs.Reads.{act, Scan, broken, whole, scan, Sheet, width, fits, add, headed, Outcome, fault, after, readLines, readHeading, readWord, read}
+use Rattle.aiger.specs.Reads.{Act, Digit, Space, Newline, Stop, act, Scan, broken, whole, scan, Sheet, width, fits, add, headed, Outcome, fault, after, readLines, readWord, read}
 use Rattle.aiger.proofs.Lines.{Says, act-says, turn}
 
 ends-append : (xs ys : List ℕ) → ends (xs ++ ys) ≡ ends xs + ends ys

@@ -1,23 +1,20 @@
 -- A line and its numbers: what is scanned is what is written, and what is written is scanned.
-use mathlib.Core.Path.{_≡_, refl, sym, ap, subst, _∙_}
-use mathlib.Core.Bool.{Bool, true, false, cond, _&&_}
-use mathlib.Core.List.{List, [], _∷_, _++_, append-assoc, append-nil}
-use Prim.Native.Nat.{ℕ, suc, _+_, _-_, _*_, _/_, _%_, _^_, _≤_, _<_}
-use native.Mathlib.Nat.{add-assoc}
+use mathlib.Core.Path.{_≡_, refl, sym, ap, _∙_}
+use mathlib.Core.Bool.{true, _&&_}
+use mathlib.Core.List.{List, [], _∷_, _++_, append-assoc}
+use Prim.Native.Nat.{ℕ, _+_, _-_, _*_, _/_, _%_, _≤_, _<_}
 use native.Mathlib.Omega.{arith}
-use lib.Dec.{eqb, ltb, leb}
+use lib.Dec.{eqb, ltb}
 use lib.ListN.{length}
 use Rattle.std.specs.Written.{decimal}
 use Rattle.std.specs.shelf.Lists.{joined, All}
 use Rattle.std.proofs.shelf.Decimals.{decimal-digit, decimal-step, decimal-by-steps}
-use Rattle.std.proofs.shelf.Lists.{length-push, length-append, joined-more}
+use Rattle.std.proofs.shelf.Lists.{length-push, joined-more}
 use Rattle.std.proofs.shelf.Tests.{cond-both, cond-true, cond-false, and-parts, and-from, leb-true, ltb-true, eqb-true, eqb-false, le-leb, lt-ltb, ne-eqb}
 use Rattle.std.specs.declared.option.Option.{Option}
 use Rattle.std.specs.declared.option.Option.the-variants.{Some, None}
 use Rattle.aiger.specs.Text.{lineOf}
-use Rattle.aiger.specs.declared.line.Act.{Act}
-use Rattle.aiger.specs.declared.line.Act.the-variants.{Digit, Space, Newline, Stop}
-use Rattle.aiger.specs.Reads.{act, isDigit, Scan, broken, whole, scan}
+use Rattle.aiger.specs.Reads.{Act, Digit, Space, Newline, Stop, act, isDigit, Scan, broken, whole, scan}
 
 -- the digits of a number so far
 abbrev pub sofar : Option ℕ → List ℕ
@@ -70,6 +67,11 @@ act-says more (Some v) b =
     cond-both (eqb b 32) _ _ (Says more (Some v) b)
     (λ e. let ne = eqb-false _ _ z in (refl, eqb-true _ _ e, omega arith))
     (λ _. tt)))
+
+-- the bytes of some lines, and then of others
+pub joined-append : (xs ys : List (List ℕ)) → joined lineOf (xs ++ ys) ≡ joined lineOf xs ++ joined lineOf ys
+joined-append [] ys = refl
+joined-append (x ∷ xs) ys = ap (λ l. lineOf x ++ l) (joined-append xs ys) ∙ sym (append-assoc (lineOf x) (joined lineOf xs) (joined lineOf ys))
 
 -- From the bytes to the numbers.
 

@@ -1,9 +1,9 @@
 -- What is written on a page, one piece after another.
-use mathlib.Core.Path.{_≡_, refl, sym, ap, subst, _∙_}
+use mathlib.Core.Path.{_≡_, refl, sym, ap, _∙_}
 use mathlib.Core.Bool.{true, false, _&&_, Bool·beq}
 use mathlib.Core.Logic.{inl, inr}
 use mathlib.Core.List.{List, [], _∷_, _++_, append-assoc, append-nil}
-use Prim.Native.Nat.{ℕ, zero, suc, _+_, _/_, _%_, _^_, _≤_, _<_}
+use Prim.Native.Nat.{ℕ, zero, suc, _+_, _/_, _%_, _≤_, _<_}
 use native.Mathlib.Omega.{arith}
 use lib.Dec.{eqb, ltb}
 use lib.ListN.{length, getD, take}
@@ -16,6 +16,7 @@ use Rattle.std.specs.shelf.Lists.{joined}
 use Rattle.drawing.specs.declared.node.Node.{Node}
 use Rattle.drawing.specs.declared.node.Node.the-variants.{Constant, Input, Gate}
 use Rattle.aiger.specs.Text.{lineOf, word, rows, outputRows}
+use Rattle.aiger.proofs.Lines.{joined-append}
 use Rattle.aiger.proofs.Rows.{rows-more}
 use Rattle.aiger.specs.Pages.{written, Adds, Short, ShortGates, ShortNumbers}
 use Rattle.drawing.specs.Sets.{In}
@@ -53,10 +54,6 @@ adds-as p q xs ys j k a e h = record { text = a .text ∙ ap (λ l. written p ++
 
 pub gate-text : (a b c : List ℕ) → ((a ++ 32 ∷ []) ++ (b ++ 32 ∷ [])) ++ (c ++ 10 ∷ []) ≡ (a ++ 32 ∷ (b ++ 32 ∷ (c ++ 10 ∷ []))) ++ []
 gate-text a b c = simp (append-assoc, append-nil)
-
-joined-append : (xs ys : List (List ℕ)) → joined lineOf (xs ++ ys) ≡ joined lineOf xs ++ joined lineOf ys
-joined-append [] ys = refl
-joined-append (x ∷ xs) ys = ap (λ l. lineOf x ++ l) (joined-append xs ys) ∙ sym (append-assoc (lineOf x) (joined lineOf xs) (joined lineOf ys))
 
 -- the lines of one node more
 pub lines-more : (f : ℕ → Node → List (List ℕ)) (ns : List Node) (k : ℕ) (d : Node) → k < length ns → joined lineOf (rows f 0 (take k ns)) ++ joined lineOf (f k (getD ns k d)) ≡ joined lineOf (rows f 0 (take (k + 1) ns))

@@ -1,34 +1,28 @@
 -- The text of a lawful drawing is accepted, and gives that drawing.
 use mathlib.Core.Path.{_≡_, refl, sym, ap, subst, _∙_}
-use mathlib.Core.Bool.{Bool, true, false, cond, not, _&&_}
+use mathlib.Core.Bool.{true, false}
 use mathlib.Core.Logic.{inl, inr}
 use mathlib.Core.List.{List, [], _∷_, _++_, map, append-assoc, append-nil}
-use Prim.Native.Nat.{ℕ, zero, suc, pred, _+_, _-_, _*_, _/_, _%_, _≤_, _<_}
+use Prim.Native.Nat.{ℕ, suc, _+_, _*_, _/_, _%_, _≤_, _<_}
 use native.Mathlib.Omega.{arith}
-use lib.Dec.{eqb, ltb}
 use lib.ListN.{length, getD, set, replicate}
 use Rattle.std.specs.shelf.Lists.{joined, All}
 use Rattle.std.proofs.shelf.Lists.{length-append, length-map, length-replicate, length-push, getD-at, set-at}
 use Rattle.std.proofs.shelf.Tests.{and-from, eq-eqb, lt-ltb, le-leb, both-ways, not-from-false, cond-true}
-use Rattle.std.specs.declared.option.Option.the-variants.{Some, None}
-use Rattle.std.specs.declared.result.Result.the-variants.{Ok, Err}
+use Rattle.std.specs.declared.result.Result.the-variants.{Ok}
 use Rattle.drawing.specs.declared.node.Node.{Node}
 use Rattle.drawing.specs.declared.node.Node.the-variants.{Constant, Input, Gate}
 use Rattle.aiger.specs.declared.reader.Part.{Part}
 use Rattle.aiger.specs.declared.reader.Part.the-variants.{Inputs, Outputs, Gates}
 use Rattle.drawing.specs.declared.refusal.Rule.the-variants.{Literal}
 use Rattle.drawing.specs.Sets.{In}
-use Rattle.drawing.specs.Drawing.{Drawing, drawing, nodeOf, isInput, soundAt, lawful}
+use Rattle.drawing.specs.Drawing.{Drawing, drawing, nodeOf, isInput, lawful}
 use Rattle.drawing.proofs.Sound.{sound-at, sound-some}
 use Rattle.drawing.proofs.Lawful.{Lawfully, lawful-says}
-use Rattle.aiger.specs.Text.{lineOf, inputRow, gateRow, rows, outputRows, body, heading, word, text}
-use Rattle.aiger.specs.Reads.{Scan, whole, scan, Sheet, width, headed, follows, fits, add, Outcome, fault, after, readLines, plan, blank, readHeading, readWord, read}
-use Rattle.aiger.proofs.Lines.{scan-line}
+use Rattle.aiger.specs.Text.{lineOf, inputRow, gateRow, rows, outputRows, body, heading, text}
+use Rattle.aiger.specs.Reads.{Sheet, width, headed, follows, fits, add, fault, after, readLines, plan, blank, readHeading, readWord, read}
+use Rattle.aiger.proofs.Lines.{joined-append, scan-line}
 use Rattle.aiger.proofs.Rows.{plain, rows-count, Stands, sound-stands}
-
-joined-append : (xs ys : List (List ℕ)) → joined lineOf (xs ++ ys) ≡ joined lineOf xs ++ joined lineOf ys
-joined-append [] ys = refl
-joined-append (x ∷ xs) ys = ap (λ l. lineOf x ++ l) (joined-append xs ys) ∙ sym (append-assoc (lineOf x) (joined lineOf xs) (joined lineOf ys))
 
 abbrev Small : List ℕ → Type 0
 Small ns = All (λ x. x < 1000) ns
@@ -105,15 +99,15 @@ abbrev AllStand : ℕ → List Node → Type 0
 AllStand n [] = Unit {0}
 AllStand n (x ∷ xs) = Stands n x × AllStand (suc n) xs
 
-all-stand : (n : ℕ) (xs : List Node) → ((j m : ℕ) → m ≡ n + j → j < length xs → Stands m (getD xs j Constant)) → AllStand n xs
-all-stand n [] h = tt
-all-stand n (x ∷ xs) h = (h 0 n (omega arith) (omega arith), all-stand (suc n) xs (λ j m e lt. h (suc j) m (omega arith) (omega arith)))
+each-stands : (n : ℕ) (xs : List Node) → ((j m : ℕ) → m ≡ n + j → j < length xs → Stands m (getD xs j Constant)) → AllStand n xs
+each-stands n [] h = tt
+each-stands n (x ∷ xs) h = (h 0 n (omega arith) (omega arith), each-stands (suc n) xs (λ j m e lt. h (suc j) m (omega arith) (omega arith)))
 
-plain-none : (n : ℕ) (xs : List Node) → AllStand n xs → plain xs ≡ 0
-plain-none n [] h = refl
-plain-none n (Constant ∷ xs) h = absurd (h .0)
-plain-none n (Input ∷ xs) h = plain-none (suc n) xs (h .1)
-plain-none n (Gate p ∷ xs) h = plain-none (suc n) xs (h .1)
+no-plain : (n : ℕ) (xs : List Node) → AllStand n xs → plain xs ≡ 0
+no-plain n [] h = refl
+no-plain n (Constant ∷ xs) h = absurd (h .0)
+no-plain n (Input ∷ xs) h = no-plain (suc n) xs (h .1)
+no-plain n (Gate p ∷ xs) h = no-plain (suc n) xs (h .1)
 
 module _ (outputs : List ℕ) (i : ℕ) (ps : List Part) (rest : List ℕ) (after′ : List Node) where
   gates-go : (suf pre nodes : List Node) (n last ln pos : ℕ) → length pre ≡ n → last < n → n + length suf ≤ 256 → AllStand n suf
@@ -157,7 +151,7 @@ read-text suf outputs a few named seen =
     let ins = rows inputRow 1 suf in
     let gates = rows gateRow 1 suf in
     let gs = replicate (length gates) Gates in
-    let count : m ≡ length ins + length gates = omega (arith, rows-count 1 suf, plain-none 1 suf a) in
+    let count : m ≡ length ins + length gates = omega (arith, rows-count 1 suf, no-plain 1 suf a) in
     let good : headed (heading d) ≡ true = and-from _ _ (eq-eqb 0 0 refl) (and-from _ _ (eq-eqb m (length ins + length gates) count) (and-from _ _ (lt-ltb m 256 few) (le-leb (length outputs) 64 (omega arith)))) in
     let hidden = Constant ∷ map hide suf in
     let s = scan-line [] m (length ins ∷ 0 ∷ length outputs ∷ length gates ∷ []) 4 4 (joined lineOf (body d)) (omega arith, (omega arith, (omega arith, (omega arith, (omega arith, tt))))) refl in
@@ -175,7 +169,7 @@ by-nodes (Constant ∷ suf) outputs h =
     let stand : (j m : ℕ) → m ≡ 1 + j → j < length suf → Stands m (getD suf j Constant) = λ j m e lt.
     let same : m ≡ suc j = omega arith in
     subst (λ k. Stands k (getD suf j Constant)) (sym same) (sound-stands (suc j) (getD suf j Constant) (omega arith) (sound-at (Constant ∷ suf) (suc j) (h .nodes-sound) (omega arith))) in
-    read-text suf outputs (all-stand 1 suf stand) (omega (arith, h .nodes-few)) (all-in (λ l. nodeOf l < suc (length suf)) outputs (h .outputs-named)) (h .outputs-few)
+    read-text suf outputs (each-stands 1 suf stand) (omega (arith, h .nodes-few)) (all-in (λ l. nodeOf l < suc (length suf)) outputs (h .outputs-named)) (h .outputs-few)
 by-nodes (Input ∷ suf) outputs h = absurd (both-ways false refl (sound-at (Input ∷ suf) 0 (h .nodes-sound) (omega arith)))
 by-nodes (Gate p ∷ suf) outputs h = absurd (both-ways false refl (sound-at (Gate p ∷ suf) 0 (h .nodes-sound) (omega arith)))
 

@@ -3,7 +3,7 @@ use mathlib.Core.Bool.{Bool, cond, not, _&&_, false}
 use mathlib.Core.List.{List, [], _∷_, _++_}
 use Prim.Native.Nat.{ℕ, suc, _+_, _-_, _*_, _%_}
 use lib.Dec.{eqb, ltb, leb}
-use lib.ListN.{length, getD, set, replicate}
+use lib.ListN.{getD, set, replicate}
 use Rattle.std.specs.declared.option.Option.{Option}
 use Rattle.std.specs.declared.option.Option.the-variants.{Some, None}
 use Rattle.std.specs.declared.result.Result.{Result}
@@ -14,8 +14,6 @@ use Rattle.drawing.specs.declared.refusal.Rule.{Rule}
 use Rattle.drawing.specs.declared.refusal.Rule.the-variants.{Pattern, Figures, Literal}
 use Rattle.drawing.specs.declared.refusal.Fault.{Fault}
 use Rattle.drawing.specs.Drawing.{Drawing, drawing, mostNodes, mostOutputs, nodeOf, at, isInput, names}
-use Rattle.aiger.specs.declared.line.Act.{Act}
-use Rattle.aiger.specs.declared.line.Act.the-variants.{Digit, Space, Newline, Stop}
 use Rattle.aiger.specs.declared.reader.Part.{Part}
 use Rattle.aiger.specs.declared.reader.Part.the-variants.{Header, Inputs, Outputs, Gates, End}
 use Rattle.aiger.specs.Text.{word}
@@ -24,6 +22,13 @@ use Rattle.aiger.specs.Text.{word}
 
 abbrev pub isDigit : ℕ → Bool
 isDigit b = leb 48 b && ltb b 58
+
+-- what a byte is to a line: a digit, which makes this number; a space or the line's end, which close this number; or none of these
+pub data Act : Type 0 where
+  Digit : ℕ → Act
+  Space : ℕ → Act
+  Newline : ℕ → Act
+  Stop : Act
 
 -- what the byte b is to a line, behind the digits of a number, if it has begun, and with `more` numbers to come
 -- after this one: a digit may follow the number v where v has one or two digits and is not 0

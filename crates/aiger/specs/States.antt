@@ -1,10 +1,10 @@
 -- What a reader that stands in the middle of a text owes for the bytes to come.
 use mathlib.Core.Path.{_≡_}
-use mathlib.Core.Bool.{Bool, true, false, cond}
+use mathlib.Core.Bool.{true, false, cond}
 use mathlib.Core.List.{List, [], _∷_}
-use Prim.Native.Nat.{ℕ, suc, _+_, _^_, _≤_, _<_}
+use Prim.Native.Nat.{ℕ, _+_, _≤_, _<_}
 use lib.Dec.{ltb}
-use lib.ListN.{length, take, drop, replicate}
+use lib.ListN.{take, drop, replicate}
 use Rattle.aiger.specs.declared.line.Line.{Line}
 use Rattle.std.specs.declared.option.Option.the-variants.{None}
 use Rattle.std.specs.declared.result.Result.{Result}
@@ -32,6 +32,14 @@ done l = take (l .field) (l .fields)
 abbrev pub scanOn : Line → List ℕ → Scan
 scanOn l bs = scan (l .more) (done l) (l .number) (l .pos) bs
 
+-- the byte that comes next breaks the pattern
+abbrev pub brokenAt : Line → Fault
+brokenAt l = record { rule = Pattern; byte = l .pos; line = l .row }
+
+-- a literal of the line is outside the rules
+abbrev pub misplacedIn : Line → Fault
+misplacedIn l = record { rule = Literal; byte = l .start; line = l .row }
+
 -- there is room for the numbers to come
 abbrev pub Fair : Line → Type 0
 Fair l = l .field + l .more < 5
@@ -56,7 +64,7 @@ pub record Closes (l : Line) (b : ℕ) (m : Line) : Type 0 where
 
 -- the byte b breaks the pattern of the line l, with the fault f
 pub record Breaks (l : Line) (b : ℕ) (f : Fault) : Type 0 where
-  pub is : f ≡ record { rule = Pattern; byte = l .pos; line = l .row }
+  pub is : f ≡ brokenAt l
   pub same : (bs : List ℕ) → scanOn l (b ∷ bs) ≡ broken (l .pos)
 
 -- the drawing so far

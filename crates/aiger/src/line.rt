@@ -2,22 +2,12 @@
 
 use drawing::refusal::Fault;
 use drawing::refusal::Rule;
-ghost use Prim.Native.Nat.{_+_, _<_, _^_};
-ghost use Rattle.aiger.specs.Reads.{act};
-ghost use Rattle.aiger.specs.States.{Breaks, Closes, Fair, firstLine, Goes};
-ghost use Rattle.drawing.specs.declared.refusal.Rule.the-variants.{Pattern, Literal};
+ghost use Prim.Native.Nat.{_+_, _<_, _≤_, _^_};
+ghost use Rattle.aiger.specs.Reads.{act, Digit, Stop};
+ghost use Rattle.aiger.specs.States.{Breaks, brokenAt, Closes, Fair, firstLine, Goes, misplacedIn};
 ghost use Rattle.std.specs.Results.{Cases};
+ghost use Rattle.std.specs.declared.option.Option.the-variants.{Some, None};
 ghost use mathlib.Core.Path.{_≡_};
-
-/// What a byte is to a line: a digit, which makes the number so far; the space or the line's end, which closes
-/// the number; or a byte that breaks the pattern.
-#[derive(Clone, Copy)]
-pub enum Act {
-    Digit(u16),
-    Space(u16),
-    Newline(u16),
-    Stop,
-}
 
 /// The line that is being read.
 #[derive(Drop)]
@@ -55,7 +45,7 @@ impl Line {
 
     /// The next byte breaks the pattern.
     pub(crate) fn broken(&self) -> Fault
-        ensures { λ r. ⌜ r ≡ record { rule = Pattern; byte = now (self .entry) .pos; line = now (self .entry) .row } ⌝ }
+        ensures { λ r. ⌜ r ≡ brokenAt (now (self .entry)) ⌝ }
     {
         Fault {
             rule: Rule::Pattern,
@@ -66,7 +56,7 @@ impl Line {
 
     /// A literal of this line is outside the rules.
     pub(crate) fn misplaced(&self) -> Fault
-        ensures { λ r. ⌜ r ≡ record { rule = Literal; byte = now (self .entry) .start; line = now (self .entry) .row } ⌝ }
+        ensures { λ r. ⌜ r ≡ misplacedIn (now (self .entry)) ⌝ }
     {
         Fault {
             rule: Rule::Literal,
@@ -75,20 +65,45 @@ impl Line {
         }
     }
 
-    /// What the next byte is to the number and the line. A number has at most three digits, and only 0 begins with 0:
-    /// so a digit follows the number v exactly where 0 < v < 100.
-    fn act(&self, byte: u8) -> Act
-        ensures { λ r. ⌜ r ≡ act (now (self .entry) .more) (now (self .entry) .number) byte ⌝ }
+    /// The number so far with one more digit. A number has at most three digits, and only 0 itself begins with 0: so a
+    /// digit may follow the number v exactly where 0 < v < 100.
+    fn digit(&self, byte: u8) -> Result<u16, Fault>
+        requires { ⌜ 48 ≤ byte ⌝ ∗ ⌜ byte < 58 ⌝ }
+        ensures { λ r. ⌜ Cases r (λ v. act (now (self .entry) .more) (now (self .entry) .number) byte ≡ Digit v) (λ f. (act (now (self .entry) .more) (now (self .entry) .number) byte ≡ Stop) × (f ≡ brokenAt (now (self .entry)))) ⌝ }
     {
-        match (self.number, byte) {
-            (None, b'0'..=b'9') => Act::Digit(u16::from(byte - b'0')),
-            (Some(v), b'0'..=b'9') if 0 < v && v < 100 => Act::Digit(
-                10 * v + u16::from(byte - b'0'),
-            ),
-            (Some(v), b' ') if self.more > 0 => Act::Space(v),
-            (Some(v), b'\n') if self.more == 0 => Act::Newline(v),
-            _ => Act::Stop,
+        let value = u16::from(byte - b'0');
+        match self.number {
+            None => Ok(value),
+            Some(v) if 0 < v && v < 100 => Ok(10 * v + value),
+            Some(_) => Err(self.broken()),
         }
+    }
+
+    /// The number that ends here.
+    fn whole(&self) -> Result<u16, Fault>
+        ensures { λ r. ⌜ Cases r (λ v. now (self .entry) .number ≡ Some v) (λ f. (now (self .entry) .number ≡ None) × (f ≡ brokenAt (now (self .entry)))) ⌝ }
+    {
+        match self.number {
+            Some(v) => Ok(v),
+            None => Err(self.broken()),
+        }
+    }
+
+    /// The number that ends here is the next field of the line.
+    fn space(&mut self) -> Result<(), Fault>
+        requires { ⌜ now self .pos + 1 < 2 ^ 64 ⌝ ∗ ⌜ Fair (now self) ⌝ }
+        ensures { λ r. ⌜ Cases r (λ _. Goes (now (self .entry)) 32 (now (self .exit))) (λ f. Breaks (now (self .entry)) 32 f) ⌝ }
+    {
+        if self.more == 0 {
+            return Err(self.broken());
+        }
+        let number = self.whole()?;
+        self.fields[self.field] = number;
+        self.field += 1;
+        self.more -= 1;
+        self.number = None;
+        self.pos += 1;
+        Ok(())
     }
 
     /// One more byte of the line, other than the one that ends it.
@@ -96,22 +111,16 @@ impl Line {
         requires { ⌜ now self .pos + 1 < 2 ^ 64 ⌝ ∗ ⌜ Fair (now self) ⌝ ∗ ⌜ (byte ≡ 10 → ⊥) ⌝ }
         ensures { λ r. ⌜ Cases r (λ _. Goes (now (self .entry)) byte (now (self .exit))) (λ f. Breaks (now (self .entry)) byte f) ⌝ }
     {
-        match self.act(byte) {
-            Act::Digit(v) => {
-                self.number = Some(v);
-                self.pos += 1;
-                Ok(())
-            }
-            Act::Space(v) => {
-                self.fields[self.field] = v;
-                self.field += 1;
-                self.more -= 1;
-                self.number = None;
-                self.pos += 1;
-                Ok(())
-            }
-            _ => Err(self.broken()),
+        if byte == b' ' {
+            return self.space();
         }
+        if byte < b'0' || byte > b'9' {
+            return Err(self.broken());
+        }
+        let number = self.digit(byte)?;
+        self.number = Some(number);
+        self.pos += 1;
+        Ok(())
     }
 
     /// The byte that ends the line.
@@ -119,14 +128,13 @@ impl Line {
         requires { ⌜ now self .pos + 1 < 2 ^ 64 ⌝ ∗ ⌜ Fair (now self) ⌝ }
         ensures { λ r. ⌜ Cases r (λ _. Closes (now (self .entry)) 10 (now (self .exit))) (λ f. Breaks (now (self .entry)) 10 f) ⌝ }
     {
-        match self.act(b'\n') {
-            Act::Newline(v) => {
-                self.fields[self.field] = v;
-                self.field += 1;
-                self.pos += 1;
-                Ok(())
-            }
-            _ => Err(self.broken()),
+        if self.more > 0 {
+            return Err(self.broken());
         }
+        let number = self.whole()?;
+        self.fields[self.field] = number;
+        self.field += 1;
+        self.pos += 1;
+        Ok(())
     }
 }

@@ -33,6 +33,7 @@ use Rattle.cells.specs.Laws.{known, cellLawful, namesAfter, cellsLawful, outpu
 use Rattle.cells.specs.Covers.{Suits, AllSuit, Covers, Covers-agree}
 use Rattle.cells.proofs.Tables.{table-row}
 use Rattle.cells.proofs.LeafRows.{row-lt}
+use Rattle.cells.proofs.Names.{mem-plain}
 use Rattle.cells.proofs.Laws.{cell-says, cover-says}
 
 -- nodes with their values
@@ -179,13 +180,6 @@ bound-plain (m ∷ ns) (v ∷ row) n =
     (λ (e : m ≡ n → ⊥). cond-false (eqb (plain m) (plain n)) v _ (ne-eqb _ _ (λ (q : 2 * m ≡ 2 * n). e (omega arith))) ∙ bound-plain ns row n ∙ sym (cond-false (eqb m n) v _ (ne-eqb m n e)))
     (cases-eq m n)
 
-mem-plain : (ns : List ℕ) (l : ℕ) → mem l (map plain ns) ≡ true → (n : ℕ) × (l ≡ plain n) × (mem n ns ≡ true)
-mem-plain [] l h = absurd (both-ways false refl h)
-mem-plain (m ∷ ns) l h =
-    ⊎-elim (λ t. (m, eqb-true l (plain m) t, or-left _ _ (eq-eqb m m refl)))
-    (λ t. let r = mem-plain ns l t in (r .0, r .1, or-right (eqb (r .0) m) (mem (r .0) ns) (r .2)))
-    (or-cases (eqb l (plain m)) (mem l (map plain ns)) h)
-
 unbound : (ns row : List ℕ) (l : ℕ) → mem l ns ≡ false → look (bound ns row) l ≡ 0
 unbound [] row l h = refl
 unbound (m ∷ ns) [] l h = refl
@@ -234,7 +228,7 @@ module _ (nodes : List Node) (row : List ℕ) where
         (⊎-elim
         (λ z. let e = eqb-true (nodeOf l) 0 z in ap (λ n. look env (plain n)) e ∙ zero-known ∙ ap (λ n. getD (values nodes row) n 0) (sym e))
         (λ z. knows-node (values nodes row) names env k (nodeOf l) z)
-        (or-cases (eqb (nodeOf l) 0) (mem (plain (nodeOf l)) names) (and-parts _ (eqb (nodeOf l) 0 || mem (plain (nodeOf l)) names) h .1)))
+        (or-cases (eqb (nodeOf l) 0) (mem (plain (nodeOf l)) names) h))
 
     outputs-agree : (os : List ℕ) → every (outputLawful names) os ≡ true → map (outputValue (look env)) os ≡ map (literal (values nodes row)) os
     outputs-agree [] h = refl

@@ -1,4 +1,5 @@
 pub mod Packed
+pub mod Words
 pub mod Tables
 pub mod Pins
 pub mod LeafRows

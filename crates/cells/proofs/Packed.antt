@@ -3,19 +3,12 @@ use mathlib.Core.Path.{_≡_, refl, sym, ap, subst, _∙_}
 use mathlib.Core.Logic.{_⊎_, inl, inr, ⊎-elim}
 use Prim.Native.Nat.{ℕ, zero, suc, _+_, _-_, _*_, _/_, _%_, _^_, _≤_, _<_}
 use native.Mathlib.Nat.{add-comm, mul-assoc, add-mul-div-right, add-mul-mod-self-right, mod-eq-of-lt, div-eq-of-lt}
-use native.Mathlib.Numerals.{add-one}
+use native.Mathlib.Numerals.{add-one, one-add}
 use native.Mathlib.Omega.{arith}
-use lib.Bits.{bitOr}
 use lib.Pow.{pow-mono}
-use Rattle.std.proofs.shelf.Bits.{pow-pos, pow-add, shl-whole, one-shl, shr-high, or-comm, or-shifted}
+use Rattle.std.proofs.shelf.Bits.{pow-pos, pow-add, one-shl, shr-high, mod-pow-add}
 use Rattle.std.proofs.shelf.Tests.{cases-eq}
 use Rattle.cells.specs.Truth.{packed, bit}
-
--- `t |= b << m` at a type of w bits
-pub or-bit : (t m b w : ℕ) → t < 2 ^ m → b ≤ 1 → m < w → bitOr t (b * 2 ^ m % 2 ^ w) ≡ t + b * 2 ^ m
-or-bit t m b w h k l =
-    ap (bitOr t) (shl-whole b 1 m w (omega arith) (omega arith))
-    ∙ or-comm t (b * 2 ^ m) ∙ or-shifted b m t h ∙ add-comm (b * 2 ^ m) t
 
 -- the rows of a table of n leaves, as a loop over `0..1 << n` has them
 pub row-below : (n m w : ℕ) → n ≤ w → w < 32 → m < 1 * 2 ^ n % 2 ^ 32 → m < 2 ^ w
@@ -59,3 +52,16 @@ pub bit-above : (f : ℕ → ℕ) → ((m : ℕ) → f m ≤ 1) → (n m : ℕ) 
 bit-above f s n m h =
     let l : packed f n < 2 ^ m = omega (arith, packed-lt f s n, pow-mono h) in
     ap (λ x. x % 2) (div-eq-of-lt l)
+
+-- a number below 2^n is made of its bits
+packed-mod : (t n : ℕ) → packed (bit t) n ≡ t % 2 ^ n
+packed-mod t zero = omega arith
+packed-mod t (suc n) =
+    ap (λ x. x + bit t n * 2 ^ n) (packed-mod t n) ∙ add-comm (t % 2 ^ n) (bit t n * 2 ^ n) ∙ sym (mod-pow-add t 1 n) ∙ ap (λ k. t % 2 ^ k) (one-add n)
+
+packed-same : (f g : ℕ → ℕ) (n : ℕ) → ((m : ℕ) → m < n → f m ≡ g m) → packed f n ≡ packed g n
+packed-same f g zero h = refl
+packed-same f g (suc n) h = let a = packed-same f g n (λ m l. h m (omega arith)) in let b = h n (omega arith) in cc
+
+pub packed-is : (t n : ℕ) (f : ℕ → ℕ) → t < 2 ^ n → ((m : ℕ) → m < n → bit t m ≡ f m) → t ≡ packed f n
+packed-is t n f l h = sym (mod-eq-of-lt l) ∙ sym (packed-mod t n) ∙ packed-same (bit t) f n h

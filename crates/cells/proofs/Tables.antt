@@ -35,7 +35,7 @@ cone-small nodes ls root m =
 pub table-bit-row : (n : ℕ) (f : ℕ → ℕ) (m : ℕ) → m < 2 ^ n → tableBit n f m ≡ f m
 table-bit-row n f m h = cond-true _ _ _ (lt-ltb m (2 ^ n) h)
 
-table-bit-same : (n : ℕ) (f g : ℕ → ℕ) (m : ℕ) → ((k : ℕ) → k < 2 ^ n → f k ≡ g k) → tableBit n f m ≡ tableBit n g m
+pub table-bit-same : (n : ℕ) (f g : ℕ → ℕ) (m : ℕ) → ((k : ℕ) → k < 2 ^ n → f k ≡ g k) → tableBit n f m ≡ tableBit n g m
 table-bit-same n f g m h =
     ⊎-elim (λ l. table-bit-row n f m l ∙ h m l ∙ sym (table-bit-row n g m l))
     (λ (l : 2 ^ n ≤ m). cond-false (ltb m (2 ^ n)) (f m) 0 (le-ltb m (2 ^ n) l) ∙ sym (cond-false (ltb m (2 ^ n)) (g m) 0 (le-ltb m (2 ^ n) l)))

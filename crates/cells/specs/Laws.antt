@@ -2,8 +2,8 @@
 use Prim.Native.Nat.{ℕ}
 use mathlib.Core.Bool.{Bool, true, not, _&&_, _||_}
 use mathlib.Core.List.{List, [], _∷_, map}
-use lib.Dec.{eqb, ltb, leb}
-use Rattle.drawing.specs.Sets.{every, mem, rises}
+use lib.Dec.{eqb, leb}
+use Rattle.drawing.specs.Sets.{every, mem, rises, below}
 use Rattle.drawing.specs.Drawing.{nodeOf, mostNodes}
 use Rattle.cells.specs.declared.cell.Cell.{Cell}
 use Rattle.drawing.specs.Drawing.{mostLeaves}
@@ -30,9 +30,9 @@ abbrev pub cellsLawful : List ℕ → List ℕ → List Cell → Bool
 cellsLawful inputs names [] = true
 cellsLawful inputs names (c ∷ cs) = cellLawful inputs names c && cellsLawful inputs (rootName c ∷ names) cs
 
--- an output names node 0, an input or a root; numbers end at 255
+-- an output names node 0, an input or a root
 abbrev pub outputLawful : List ℕ → ℕ → Bool
-outputLawful names l = ltb (nodeOf l) mostNodes && (eqb (nodeOf l) 0 || mem (plain (nodeOf l)) names)
+outputLawful names l = eqb (nodeOf l) 0 || mem (plain (nodeOf l)) names
 
 abbrev pub rootsOf : Netlist → List ℕ
 rootsOf n = map (λ c. c .root) (n .cells)
@@ -41,8 +41,12 @@ rootsOf n = map (λ c. c .root) (n .cells)
 abbrev pub namesOf : Netlist → List ℕ
 namesOf n = namesAfter (map plain (n .inputs)) (n .cells)
 
--- inputs rise and roots rise, both from 1 or more; each cell and each output is lawful
+-- numbers of nodes that rise, from 1 to 255
+abbrev pub numbered : List ℕ → Bool
+numbered nodes = rises 0 nodes && below mostNodes nodes
+
+-- inputs and roots are numbered, and each cell and each output is lawful
 unfoldable pub lawfulCover : Netlist → Bool
 lawfulCover n =
-    rises 0 (n .inputs) && rises 0 (rootsOf n) && cellsLawful (n .inputs) (map plain (n .inputs)) (n .cells)
+    numbered (n .inputs) && numbered (rootsOf n) && cellsLawful (n .inputs) (map plain (n .inputs)) (n .cells)
     && every (outputLawful (namesOf n)) (n .outputs)

@@ -1,6 +1,9 @@
 //! A lookup cell.
 
+ghost use Prim.Native.Nat.{_≤_};
+ghost use Rattle.drawing.specs.Drawing.{mostLeaves};
 ghost use Rattle.cells.specs.Netlist.{leavesOf};
+ghost use lib.ListN.{length};
 ghost use mathlib.Core.Path.{_≡_};
 
 /// The root, the leaves by rising number (`count` of them, then zeros), and the truth table.
@@ -15,7 +18,8 @@ pub struct Cell {
 impl Cell {
     /// The leaves, by rising number.
     pub fn leaves(&self) -> &[u8]
-        ensures { λ r. ⌜ now r ≡ leavesOf (now (self .entry)) ⌝ }
+        ensures is { λ r. ⌜ now r ≡ leavesOf (now (self .entry)) ⌝ }
+        ensures few { λ r. ⌜ length (now r) ≤ mostLeaves ⌝ }
     {
         let count = (self.count as usize).min(self.leaves.len());
         &self.leaves[0..count]

@@ -1,12 +1,13 @@
 -- The loops that compare two cuts and take the best of a list.
 use Prim.Native.Nat.{ℕ, _+_, _≤_, _<_}
-use mathlib.Core.Path.{_≡_, refl, sym, ap, ap₂, _∙_}
+use mathlib.Core.Path.{_≡_, sym, ap, ap₂, _∙_}
 use mathlib.Core.Logic.{⊎-elim, _≢_}
 use mathlib.Core.Bool.{Bool, true, false, cond, _&&_, _||_}
 use mathlib.Core.List.{List, [], _∷_, map}
 use native.Mathlib.Omega.{arith}
 use lib.Dec.{eqb, ltb}
 use lib.ListN.{length, getD, drop, length-take}
+use Rattle.family.proofs.Loop.{cond-same}
 use Rattle.std.proofs.shelf.Tests.{lt-ltb, le-ltb, ne-eqb, cases-lt}
 use Rattle.std.proofs.shelf.Ways.{tells}
 use Rattle.std.proofs.shelf.Lists.{at-drop-more, at-drop-all, drop-more}
@@ -41,10 +42,6 @@ module _ (a b : List ℕ) (i : ℕ) (whole : Bool) (inv : lexi (drop i a) (drop 
 
     pub lexi-more : getD a i 0 ≡ getD b i 0 → lexi (drop (i + 1) a) (drop (i + 1) b) ≡ whole
     lexi-more n = let w = next in grind (arith, tells)
-
-cond-same : {X : Type 0} (b : Bool) (x : X) → cond b x x ≡ x
-cond-same true x = refl
-cond-same false x = refl
 
 -- a stored cut has few leaves
 pub few-leaves : (c : Cut) → length (leavesOf c) ≤ mostLeaves

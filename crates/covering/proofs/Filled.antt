@@ -59,7 +59,7 @@ module _ {A : Type 0} (F : Delay A) (L : Laws F) (nodes : List Node) (outs : Lis
   outputs-right few =
       let w = lawful-says nodes outs law in
       in-every (outputLawful (namesOf (coverUpTo nodes (markedGate nodes marks) (setAt sets) (length nodes)))) outs
-      (λ o i. output-named nodes outs k (markedGate nodes marks) (setAt sets) (w .nodes-sound) few marked-rival o i (w .outputs-named o i) (w .nodes-few))
+      (λ o i. output-named nodes outs k (markedGate nodes marks) (setAt sets) (w .nodes-sound) few marked-rival o i (w .outputs-named o i))
 
   -- they are the chosen cells
   pub marked-cells : coverUpTo nodes (markedGate nodes marks) (setAt sets) (length nodes) .cells ≡ cellsBy nodes (takenCut F nodes k) (cells F nodes k outs)

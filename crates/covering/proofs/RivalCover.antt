@@ -12,7 +12,7 @@ use Rattle.std.specs.Iters.{counting}
 use Rattle.std.proofs.shelf.Counted.{map-counting-more}
 use Rattle.std.proofs.shelf.Elements.{kept-by-append}
 use Rattle.std.proofs.shelf.Lists.{map-id, map-push, append-nil, length-map}
-use Rattle.std.proofs.shelf.Tests.{and-from, or-left, or-right, eq-eqb, lt-ltb, cases-bool, cases-eq}
+use Rattle.std.proofs.shelf.Tests.{and-parts, and-from, or-left, or-right, eq-eqb, cases-bool, cases-eq}
 use Rattle.drawing.specs.declared.node.Node.{Node}
 use Rattle.drawing.specs.declared.node.Node.the-variants.{Constant, Input, Gate}
 use Rattle.drawing.specs.Sets.{mem, rises, below, every, keep, In}
@@ -21,10 +21,10 @@ use Rattle.drawing.specs.Values.{inputsOf}
 use Rattle.drawing.proofs.Members.{in-every, in-mem, mem-in, in-keep, keep-in, in-counting, counting-in, map-in}
 use Rattle.drawing.proofs.SetLaws.{rises-mem, says-below}
 use Rattle.drawing.proofs.Sound.{gate-positive, kind-above}
-use Rattle.drawing.proofs.InputLaws.{input-listed, gate-no-input, inputs-rise}
+use Rattle.drawing.proofs.InputLaws.{input-listed, gate-no-input, inputs-below, inputs-rise}
 use Rattle.drawing.proofs.ValueLaws.{first-constant}
 use Rattle.drawing.proofs.Lawful.{lawful-says}
-use Rattle.drawing.proofs.Lists.{rises-few}
+use Rattle.drawing.proofs.Lists.{below-wider, rises-few}
 use Rattle.cuts.proofs.LeastCuts.{cut-says}
 use Rattle.choice.specs.Rivals.{Rival}
 use Rattle.cells.specs.declared.cell.Cell.{Cell}
@@ -113,33 +113,38 @@ module _ (nodes : List Node) (outs : List ℕ) (k : ℕ) (picked : ℕ → Bool)
     piece-suits = gate-suits nodes v (given v) (cut-closes nodes v (given v) d (R .gates v here .0) (R .gates v here .1) (R .cuts v here .0))
 
   -- the cover is lawful as far as it goes
-  pub lawful-upto : (v : ℕ) → lawfulCover (upTo v) ≡ true
-  lawful-upto zero = says-cover (upTo 0) record { inputs-rise = inputs-rise nodes (first-constant nodes d); roots-rise = refl; cells-lawful = refl; outputs-lawful = refl }
-  lawful-upto (suc v) =
-      let h = lawful-upto v in
+  pub lawful-upto : (v : ℕ) → length nodes ≤ mostNodes → lawfulCover (upTo v) ≡ true
+  lawful-upto zero most =
+      says-cover (upTo 0) record {
+        inputs-numbered = and-from _ _ (inputs-rise nodes (first-constant nodes d)) (below-wider (length nodes) mostNodes (inputsOf nodes) most (inputs-below nodes));
+        roots-numbered = refl;
+        cells-lawful = refl;
+        outputs-lawful = refl;
+      }
+  lawful-upto (suc v) most =
+      let h = lawful-upto v most in
       subst (λ n. lawfulCover (upTo n) ≡ true) (add-one v)
       (⊎-elim
       (λ (p : picked v ≡ true).
       ap lawfulCover (upto-more nodes picked given v p)
-      ∙ lawful-cell (upTo v) (cellOf nodes v (given v)) h (piece-positive v p) (piece-above v p)
+      ∙ lawful-cell (upTo v) (cellOf nodes v (given v)) h (piece-positive v p) (omega (arith, R .gates v p .0)) (piece-above v p)
       (gate-lawful (inputsOf nodes) (namesOf (upTo v)) nodes v (given v) (piece-few v p) (piece-fresh v p) (piece-rising v p) (piece-known v p)))
       (λ (p : picked v ≡ false). ap lawfulCover (upto-skip nodes picked given v p) ∙ h)
       (cases-bool (picked v)))
 
   -- there is room for one more
-  pub piece-room : (v : ℕ) → picked v ≡ true → length (upTo v .cells) < v
-  piece-room v p =
-      omega (arith, rises-few 0 v (rootsOf (upTo v)) (piece-positive v p) (cover-says (upTo v) (lawful-upto v) .roots-rise) (piece-above v p), length-map (upTo v .cells) (λ c. c .root))
+  pub piece-room : (v : ℕ) → picked v ≡ true → length nodes ≤ mostNodes → length (upTo v .cells) < v
+  piece-room v p most =
+      omega (arith, rises-few 0 v (rootsOf (upTo v)) (piece-positive v p) (and-parts _ _ (cover-says (upTo v) (lawful-upto v most) .roots-numbered) .0) (piece-above v p), length-map (upTo v .cells) (λ c. c .root))
 
   -- an output names node 0, an input or a gate picked
-  pub output-named : (o : ℕ) → In o outs → nodeOf o < length nodes → length nodes ≤ mostNodes → outputLawful (namesOf (upTo (length nodes))) o ≡ true
-  output-named o i l most =
+  pub output-named : (o : ℕ) → In o outs → nodeOf o < length nodes → outputLawful (namesOf (upTo (length nodes))) o ≡ true
+  output-named o i l =
       let u = nodeOf o in
-      and-from (ltb u mostNodes) _ (lt-ltb u mostNodes (omega arith))
-      (⊎-elim
+      ⊎-elim
       (λ (e : u ≡ 0). or-left _ _ (eq-eqb u 0 e))
       (λ (e : u ≡ 0 → ⊥). or-right (eqb u 0) _ (named u (length nodes) (omega arith) l l (R .outputs o i)))
-      (cases-eq u 0))
+      (cases-eq u 0)
 
   -- the cells suit the drawing, and none has more than k leaves
   cell-at : (c : Cell) (us : List ℕ) → In c (cellsBy nodes given (keep picked us)) → (v : ℕ) × (picked v ≡ true) × (cellOf nodes v (given v) ≡ c)
@@ -162,12 +167,12 @@ module _ (nodes : List Node) (outs : List ℕ) (k : ℕ) (picked : ℕ → Bool)
     rival-lawful =
         let w = lawful-says nodes outs law in
         let n = upTo (length nodes) in
-        let l = cover-says n (lawful-upto (length nodes)) in
+        let l = cover-says n (lawful-upto (length nodes) (w .nodes-few)) in
         says-cover (netlist (n .inputs) (n .cells) outs) record {
-          inputs-rise = l .inputs-rise;
-          roots-rise = l .roots-rise;
+          inputs-numbered = l .inputs-numbered;
+          roots-numbered = l .roots-numbered;
           cells-lawful = l .cells-lawful;
-          outputs-lawful = in-every (outputLawful (namesOf n)) outs (λ o i. output-named o i (w .outputs-named o i) (w .nodes-few));
+          outputs-lawful = in-every (outputLawful (namesOf n)) outs (λ o i. output-named o i (w .outputs-named o i));
         }
 
     pub rival-covers : Covers (drawing nodes outs) (coverBy (drawing nodes outs) picked given)

@@ -1,14 +1,14 @@
 -- The choices of a gate's fanins as rows of stored sets, and that what survives of their joins is the gate's list.
-use Prim.Native.Nat.{ℕ, suc, _+_, _-_, _*_, _≤_, _<_}
+use Prim.Native.Nat.{ℕ, _+_, _-_, _*_, _≤_, _<_}
 use mathlib.Core.Path.{_≡_, refl, sym, ap, subst, _∙_}
 use mathlib.Core.Logic.{inl, inr, ⊎-elim}
-use mathlib.Core.Bool.{Bool, true, false, _||_}
+use mathlib.Core.Bool.{true, false, _||_}
 use mathlib.Core.List.{List, [], _∷_, _++_, map}
 use native.Mathlib.Omega.{arith}
 use native.Mathlib.Nat.{mul-le-mul}
 use borrow.Rule.Slice.PartMut.{putMid}
 use lib.ListN.{length, getD, take, set}
-use Rattle.std.proofs.shelf.Lists.{take-more-set, take-at, length-take, length-take-le, length-map, length-set, getD-past, map-append}
+use Rattle.std.proofs.shelf.Lists.{take-more-set, take-at, length-take, length-take-le, length-map, length-set, getD-past}
 use Rattle.std.proofs.shelf.Parts.{take-putMid}
 use Rattle.std.proofs.shelf.Tests.{both-ways, cases-lt}
 use Rattle.drawing.specs.declared.node.Pair.{Pair}

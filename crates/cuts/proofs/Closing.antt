@@ -1,22 +1,21 @@
 -- What closes a node: the law of `closes`, and what carries it from one set and drawing to another.
-use Prim.Native.Nat.{ℕ, zero, suc, _+_, _-_, _≤_, _<_}
-use mathlib.Core.Path.{_≡_, refl, sym, ap, subst, _∙_}
-use mathlib.Core.Logic.{_⊎_, inl, inr, ⊎-elim}
-use mathlib.Core.Bool.{Bool, true, false, cond, not, _&&_, _||_, Bool·beq}
-use mathlib.Core.List.{List, [], _∷_, _++_, map}
+use Prim.Native.Nat.{ℕ, zero, suc, _-_, _≤_, _<_}
+use mathlib.Core.Path.{_≡_, refl, sym, _∙_}
+use mathlib.Core.Logic.{_⊎_, ⊎-elim}
+use mathlib.Core.Bool.{Bool, true, false, _&&_, _||_}
+use mathlib.Core.List.{List}
 use native.Mathlib.Omega.{arith}
-use lib.Dec.{eqb, ltb, leb}
+use lib.Dec.{eqb, leb}
 use lib.ListN.{length, getD, take}
-use Rattle.std.specs.Iters.{counting}
-use Rattle.std.proofs.shelf.Tests.{and-parts, and-from, or-cases, or-left, or-right, eqb-true, eqb-false, eq-eqb, both-ways, cases-bool, not-true, ltb-true, ltb-false, lt-ltb, le-leb, leb-true, cases-order, cases-lt}
+use Rattle.std.proofs.shelf.Tests.{and-parts, and-from, or-cases, or-left, or-right, eqb-true, eq-eqb, both-ways, le-leb, leb-true, cases-lt}
 use Rattle.std.proofs.shelf.Lists.{getD-take, getD-past}
 use Rattle.drawing.specs.declared.node.Node.{Node}
-use Rattle.drawing.specs.declared.node.Node.the-variants.{Constant, Input, Gate}
-use Rattle.drawing.specs.Sets.{mem, sub, rises, below, insert, union, keep, subsets, every, some, In}
+use Rattle.drawing.specs.declared.node.Node.the-variants.{Constant}
+use Rattle.drawing.specs.Sets.{mem, every, In}
 use Rattle.drawing.specs.Column.{column}
-use Rattle.drawing.specs.Drawing.{at, fanins, isGate, isConstant, soundAt, sound}
+use Rattle.drawing.specs.Drawing.{at, fanins, isGate, sound}
 use Rattle.cuts.specs.Cuts.{closing, closes}
-use Rattle.drawing.proofs.Members.{every-in, in-every, every-same, in-counting}
+use Rattle.drawing.proofs.Members.{every-in, in-every, every-same}
 use Rattle.drawing.proofs.Sound.{fanins-below}
 use Rattle.drawing.proofs.ColumnLaws.{column-at, length-lower, length-column}
 

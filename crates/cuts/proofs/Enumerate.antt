@@ -1,25 +1,24 @@
 -- The list of a gate is what is minimal among the unions of one choice for each of its literals' nodes.
-use Prim.Native.Nat.{ℕ, zero, suc, _+_, _-_, _≤_, _<_}
-use mathlib.Core.Path.{_≡_, refl, sym, ap, subst, _∙_}
+use Prim.Native.Nat.{ℕ, _-_, _≤_, _<_}
+use mathlib.Core.Path.{_≡_, refl, sym, subst, _∙_}
 use mathlib.Core.Logic.{_⊎_, inl, inr, ⊎-elim}
-use mathlib.Core.Bool.{Bool, true, false, cond, not, _&&_, _||_, Bool·beq}
-use mathlib.Core.List.{List, [], _∷_, _++_, map}
+use mathlib.Core.Bool.{Bool, true, not, _&&_}
+use mathlib.Core.List.{List, [], _∷_, map}
 use native.Mathlib.Omega.{arith}
-use lib.Dec.{eqb, ltb, leb}
-use lib.ListN.{length, getD, take}
-use Rattle.std.proofs.shelf.Tests.{and-parts, and-from, or-cases, or-left, or-right, eqb-true, eqb-false, eq-eqb, both-ways, cases-bool, not-true, not-false, not-from-true, not-from-false, and-cases, ltb-true, lt-ltb, le-leb, leb-true, cases-order, cases-lt}
+use lib.Dec.{leb}
+use lib.ListN.{length}
+use Rattle.std.proofs.shelf.Tests.{and-parts, and-from, or-cases, or-left, or-right, both-ways, cases-bool, not-true, not-from-false, le-leb, leb-true}
 use Rattle.std.proofs.shelf.Ways.{same-from-decides}
 use Rattle.drawing.specs.declared.node.Node.{Node}
-use Rattle.drawing.specs.declared.node.Node.the-variants.{Constant, Input, Gate}
-use Rattle.drawing.specs.Sets.{mem, sub, rises, same, union, keep, every, some, elem, In}
+use Rattle.drawing.specs.Sets.{mem, sub, same, union, some, elem, In}
 use Rattle.drawing.specs.Drawing.{at, fanins, nodeOf, sound}
 use Rattle.cuts.specs.Cuts.{closes, leastCuts, choices, unions, minimal, joined}
 use Rattle.cuts.specs.Claims.{Lists-join}
-use Rattle.drawing.proofs.Members.{some-in, in-some, not-some, keep-in, in-keep, same-is, same-refl, elem-in, in-elem, in-append, in-append-left, in-append-right, in-map, map-in}
-use Rattle.drawing.proofs.SetLaws.{Sub, part-less, part-length, same-members, sub-says, says-sub, mem-union, rises-union}
-use Rattle.cuts.proofs.Closing.{closes-more, closes-range}
+use Rattle.drawing.proofs.Members.{some-in, not-some, keep-in, in-keep, same-is, same-refl, elem-in, in-elem, in-append, in-append-left, in-append-right, in-map, map-in}
+use Rattle.drawing.proofs.SetLaws.{Sub, part-length, same-members, sub-says, says-sub, mem-union, rises-union}
+use Rattle.cuts.proofs.Closing.{closes-more}
 use Rattle.drawing.proofs.Sound.{fanins-below}
-use Rattle.cuts.proofs.LeastCuts.{Cut, Least, Choice, least-inside, in-list, list-in, choice-closes, choice-inside}
+use Rattle.cuts.proofs.LeastCuts.{Cut, Choice, in-list, list-in, choice-closes, choice-inside}
 
 pub unions-in : (w : List ℕ) (as′ bs : List (List ℕ)) → In w (unions as′ bs) → (a : List ℕ) × (b : List ℕ) × In a as′ × In b bs × (union a b ≡ w)
 unions-in w [] bs m = elim m [ ]

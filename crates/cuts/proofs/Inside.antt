@@ -10,7 +10,7 @@ use lib.ListN.{length, getD, drop}
 use Rattle.std.proofs.shelf.Lists.{drop-more, drop-all}
 use Rattle.std.proofs.shelf.Tests.{or-left, or-right, eq-eqb, ne-eqb, cases-bool, cases-eq}
 use Rattle.std.proofs.shelf.Ways.{same-from-decides}
-use Rattle.drawing.specs.Sets.{mem, sub, rises}
+use Rattle.drawing.specs.Sets.{sub, rises}
 use Rattle.drawing.proofs.SetLaws.{Sub, mem-head, mem-cases, sub-says, says-sub, head-first, sub-tails, sub-skip}
 use Rattle.cuts.proofs.Merge.{rises-drop}
 

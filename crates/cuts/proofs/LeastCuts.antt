@@ -1,23 +1,23 @@
 -- Least cuts: what `least` says, that each cut has one inside, and how a gate's list is made from its literals' nodes.
 use Prim.Native.Nat.{ℕ, zero, suc, _+_, _-_, _≤_, _<_}
-use mathlib.Core.Path.{_≡_, refl, sym, ap, subst, _∙_}
+use mathlib.Core.Path.{_≡_, refl, sym, subst, _∙_}
 use mathlib.Core.Logic.{_⊎_, inl, inr, ⊎-elim}
-use mathlib.Core.Bool.{Bool, true, false, cond, not, _&&_, _||_, Bool·beq}
-use mathlib.Core.List.{List, [], _∷_, _++_, map}
+use mathlib.Core.Bool.{Bool, true, false, not, _&&_, Bool·beq}
+use mathlib.Core.List.{List, [], _∷_}
 use native.Mathlib.Omega.{arith}
-use lib.Dec.{eqb, ltb, leb}
-use lib.ListN.{length, getD, take}
+use lib.Dec.{ltb}
+use lib.ListN.{length}
 use Rattle.std.specs.Iters.{counting}
-use Rattle.std.proofs.shelf.Tests.{and-parts, and-from, or-cases, or-left, or-right, eqb-true, eqb-false, eq-eqb, both-ways, cases-bool, not-true, not-false, not-from-true, not-from-false, and-cases, ltb-true, ltb-false, lt-ltb, le-leb, leb-true, cases-order, cases-lt}
+use Rattle.std.proofs.shelf.Tests.{and-parts, and-from, or-left, eqb-true, eqb-false, eq-eqb, both-ways, cases-bool, not-true, not-false, not-from-false, and-cases, ltb-true, lt-ltb, cases-order}
 use Rattle.drawing.specs.declared.node.Node.{Node}
 use Rattle.drawing.specs.declared.node.Node.the-variants.{Constant, Input, Gate}
-use Rattle.drawing.specs.Sets.{mem, sub, rises, below, same, insert, union, keep, subsets, every, some, elem, In}
-use Rattle.drawing.specs.Drawing.{at, fanins, isGate, isConstant, soundAt, sound}
-use Rattle.cuts.specs.Cuts.{closes, closesFanins, cut, least, leastCuts, ways, choices, unions, minimal, joined}
-use Rattle.drawing.proofs.Members.{every-in, in-every, some-in, in-some, not-some, keep-in, in-keep, in-counting, counting-in, same-is, same-refl, elem-in, in-elem, in-mem, mem-in, in-append, in-append-left, in-append-right, in-map, map-in}
-use Rattle.drawing.proofs.SetLaws.{Sub, part-less, part-length, same-members, in-subsets, subsets-in, mem-cases, rises-mem, below-says, says-below, sub-says, says-sub, mem-union, rises-union, mem-keep, rises-keep}
+use Rattle.drawing.specs.Sets.{mem, rises, below, same, keep, subsets, some, In}
+use Rattle.drawing.specs.Drawing.{at, fanins, isGate, isConstant, sound}
+use Rattle.cuts.specs.Cuts.{closes, closesFanins, cut, least, leastCuts, ways, choices}
+use Rattle.drawing.proofs.Members.{every-in, in-every, some-in, not-some, keep-in, in-keep, in-counting, same-is, same-refl, in-mem}
+use Rattle.drawing.proofs.SetLaws.{Sub, part-less, part-length, in-subsets, subsets-in, mem-cases, rises-mem, below-says, says-below, mem-keep, rises-keep}
 use Rattle.drawing.proofs.Counts.{Once, once-keep, once-subsets}
-use Rattle.cuts.proofs.Closing.{Closed, zeroth, member, through, closes-ways, closes-by, closes-range, closes-more}
+use Rattle.cuts.proofs.Closing.{zeroth, member, through, closes-ways, closes-by, closes-range, closes-more}
 use Rattle.drawing.proofs.Sound.{fanins-below, sound-at}
 
 pub record Cut (nodes : List Node) (v : ℕ) (s : List ℕ) : Type 0 where

@@ -1,16 +1,15 @@
 -- The union of two rising sets, taken from the front: what a merge does.
 use Prim.Native.Nat.{ℕ, zero, suc, _+_, _≤_, _<_}
-use mathlib.Core.Path.{_≡_, refl, sym, ap, subst, _∙_}
-use mathlib.Core.Logic.{_⊎_, inl, inr, ⊎-elim}
-use mathlib.Core.Bool.{Bool, true, false, cond, not, _&&_, _||_}
-use mathlib.Core.List.{List, [], _∷_, _++_}
+use mathlib.Core.Path.{_≡_, refl, sym, ap, _∙_}
+use mathlib.Core.Bool.{Bool, true, _||_}
+use mathlib.Core.List.{List, [], _∷_}
 use native.Mathlib.Omega.{arith}
 use lib.Dec.{eqb, ltb}
 use lib.ListN.{length, getD, drop}
-use Rattle.std.proofs.shelf.Tests.{and-parts, and-from, lt-ltb, ltb-true, cond-true}
+use Rattle.std.proofs.shelf.Tests.{and-parts, and-from, lt-ltb, cond-true}
 use Rattle.std.proofs.shelf.Lists.{drop-more, drop-all}
 use Rattle.drawing.specs.Sets.{mem, rises, insert, union}
-use Rattle.drawing.proofs.SetLaws.{Sub, same-members, rises-tail, rises-weaker, rises-union, mem-union}
+use Rattle.drawing.proofs.SetLaws.{same-members, rises-tail, rises-weaker, rises-union, mem-union}
 
 pub same-mem : (m n : ℕ) (s t : List ℕ) → rises m s ≡ true → rises n t ≡ true → ((u : ℕ) → mem u s ≡ mem u t) → s ≡ t
 same-mem m n s t a b h = same-members m n s t a b (λ u i. sym (h u) ∙ i) (λ u i. h u ∙ i)

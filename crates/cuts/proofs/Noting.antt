@@ -5,7 +5,7 @@ use mathlib.Core.Bool.{Bool, true, false, cond, not}
 use mathlib.Core.List.{List, [], _∷_, _++_, map}
 use native.Mathlib.Omega.{arith}
 use native.Mathlib.Nat.{add-mul, one-mul, mul-le-mul-right}
-use lib.ListN.{length, getD, take, set}
+use lib.ListN.{length, take, set}
 use Rattle.std.proofs.shelf.Filters.{Keeping}
 use Rattle.std.proofs.shelf.Lists.{take-more-set, map-append}
 use Rattle.drawing.specs.Sets.{sub, keep, some}

@@ -1,24 +1,24 @@
 -- A gate's list stays as it is where the drawing changes nothing that the gate depends on.
-use Prim.Native.Nat.{ℕ, zero, suc, _+_, _-_, _≤_, _<_}
-use mathlib.Core.Path.{_≡_, refl, sym, ap, subst, _∙_, fun-ext}
-use mathlib.Core.Logic.{_⊎_, inl, inr, ⊎-elim, _≢_}
-use mathlib.Core.Bool.{Bool, true, false, cond, not, _&&_, _||_}
-use mathlib.Core.List.{List, [], _∷_, _++_, map}
+use Prim.Native.Nat.{ℕ, _+_, _-_, _<_}
+use mathlib.Core.Path.{_≡_, sym, ap, subst, fun-ext}
+use mathlib.Core.Logic.{_⊎_, ⊎-elim, _≢_}
+use mathlib.Core.Bool.{Bool, true, false, not, _&&_}
+use mathlib.Core.List.{List, [], _∷_, _++_}
 use native.Mathlib.Omega.{arith}
-use lib.Dec.{eqb, ltb, leb}
-use lib.ListN.{length, getD, take, set}
+use lib.Dec.{eqb, ltb}
+use lib.ListN.{length, set}
 use Rattle.std.specs.Iters.{counting}
-use Rattle.std.proofs.shelf.Tests.{and-parts, and-from, both-ways, cases-bool, eq-eqb, ne-eqb, eqb-false, eqb-true, not-true, not-from-false, not-from-true, ltb-true, lt-ltb}
-use Rattle.std.proofs.shelf.Lists.{getD-append-left, getD-set-other, length-set, length-append, length-push}
+use Rattle.std.proofs.shelf.Tests.{and-parts, and-from, both-ways, cases-bool, ne-eqb, eqb-false, not-true, not-from-false, ltb-true, lt-ltb}
+use Rattle.std.proofs.shelf.Lists.{getD-append-left, getD-set-other, length-set, length-push}
 use Rattle.std.proofs.shelf.Ways.{same-from-decides}
 use Rattle.drawing.specs.declared.node.Node.{Node}
-use Rattle.drawing.specs.declared.node.Node.the-variants.{Constant, Input, Gate}
-use Rattle.drawing.specs.Sets.{mem, same, rises, below, keep, some, every, subsets, In}
+use Rattle.drawing.specs.declared.node.Node.the-variants.{Constant}
+use Rattle.drawing.specs.Sets.{same, rises, below, keep, some, every, subsets, In}
 use Rattle.drawing.specs.Drawing.{at, fanins, sound}
 use Rattle.cuts.specs.Cuts.{closes, closesFanins, cut, least, leastCuts}
 use Rattle.drawing.specs.Reach.{depends}
 use Rattle.drawing.proofs.Members.{every-same}
-use Rattle.cuts.proofs.Closing.{closes-carries, closes-range}
+use Rattle.cuts.proofs.Closing.{closes-carries}
 use Rattle.drawing.proofs.Sound.{fanins-below}
 use Rattle.drawing.proofs.ReachLaws.{depends-direct, depends-through}
 

@@ -1,21 +1,20 @@
 -- What survives of a row of sets is what is minimal in it, each once.
-use Prim.Native.Nat.{ℕ, zero, suc, _+_, _-_, _≤_, _<_}
-use mathlib.Core.Path.{_≡_, refl, sym, ap, subst, _∙_}
+use Prim.Native.Nat.{ℕ, _+_, _-_, _<_}
+use mathlib.Core.Path.{_≡_, refl, sym, subst, _∙_}
 use mathlib.Core.Logic.{_⊎_, inl, inr, ⊎-elim}
-use mathlib.Core.Bool.{Bool, true, false, cond, not, _&&_, _||_}
-use mathlib.Core.List.{List, [], _∷_, _++_, map}
-use native.Mathlib.Omega.{arith}
-use lib.Dec.{eqb, ltb, leb}
+use mathlib.Core.Bool.{Bool, true, false, cond, not, _&&_}
+use mathlib.Core.List.{List, [], _∷_, _++_}
+use lib.Dec.{leb}
 use lib.ListN.{length}
 use Rattle.std.proofs.shelf.Lists.{append-assoc, append-nil}
 use Rattle.std.proofs.shelf.Tests.{and-parts, and-from, both-ways, cases-bool, not-true, not-from-false}
-use Rattle.drawing.specs.Sets.{mem, sub, rises, keep, some, every, elem, In}
+use Rattle.drawing.specs.Sets.{sub, rises, keep, some, In}
 use Rattle.cuts.specs.Antichain.{add, survivors, apart}
-use Rattle.drawing.proofs.Members.{every-in, in-every, some-in, in-some, not-some, keep-in, in-keep, in-append, in-append-left, in-append-right, elem-in, in-elem}
+use Rattle.drawing.proofs.Members.{every-in, in-every, some-in, not-some, keep-in, in-keep, in-append, in-append-left, in-append-right, elem-in, in-elem}
 use Rattle.drawing.proofs.SetLaws.{Sub, sub-says, says-sub, same-members}
 use Rattle.drawing.specs.declared.node.Node.{Node}
 use Rattle.drawing.specs.Drawing.{at, fanins, nodeOf, sound}
-use Rattle.cuts.specs.Cuts.{leastCuts, choices, unions, joins, joined, minimal, Alike}
+use Rattle.cuts.specs.Cuts.{leastCuts, choices, unions, joins, joined, Alike}
 use Rattle.cuts.specs.Claims.{Survivors-are}
 use Rattle.drawing.proofs.Counts.{Once, same-length}
 use Rattle.cuts.proofs.LeastCuts.{once-list}

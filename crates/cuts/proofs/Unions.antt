@@ -1,10 +1,10 @@
 -- The loops that make a list: over the choices of one literal's node, and of the other.
-use Prim.Native.Nat.{ℕ, _+_, _≤_, _<_}
+use Prim.Native.Nat.{ℕ, _+_, _<_}
 use mathlib.Core.Path.{_≡_, refl, sym, ap, _∙_}
 use mathlib.Core.Bool.{Bool, true, false, cond}
 use mathlib.Core.List.{List, [], _∷_, _++_, map}
 use lib.ListN.{length, getD, take}
-use Rattle.std.proofs.shelf.Lists.{take-more, take-all, map-append, append-nil, append-assoc}
+use Rattle.std.proofs.shelf.Lists.{take-more, map-append, append-nil, append-assoc}
 use Rattle.std.proofs.shelf.Elements.{kept-by-append}
 use Rattle.drawing.specs.Sets.{keep, union}
 use Rattle.cuts.specs.Cuts.{unions}

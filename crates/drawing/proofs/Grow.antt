@@ -1,5 +1,5 @@
 -- What an accepted call answers, and the drawing in its arrays then.
-use Prim.Native.Nat.{ℕ, _+_, _≤_, _<_}
+use Prim.Native.Nat.{ℕ, zero, suc, _+_, _≤_, _<_}
 use mathlib.Core.Path.{_≡_, refl, sym, ap, _∙_}
 use mathlib.Core.Bool.{Bool, true, false, cond, _&&_}
 use mathlib.Core.List.{List, [], _∷_, _++_}
@@ -7,15 +7,15 @@ use native.Mathlib.Omega.{arith}
 use lib.Dec.{ltb}
 use lib.ListN.{length, take, set}
 use Rattle.std.proofs.shelf.Tests.{lt-ltb, and-parts}
-use Rattle.std.proofs.shelf.Lists.{length-take-le, take-more-set}
+use Rattle.std.proofs.shelf.Lists.{length-take, length-take-le, take-more-set}
 use Rattle.std.specs.declared.result.Result.{Result}
 use Rattle.std.specs.declared.result.Result.the-variants.{Ok, Err}
 use Rattle.drawing.specs.declared.node.Pair.{Pair}
 use Rattle.drawing.specs.declared.node.Node.{Node}
 use Rattle.drawing.specs.declared.node.Node.the-variants.{Constant, Input, Gate}
-use Rattle.drawing.specs.Drawing.{Drawing, drawing, soundAt, sound, names, lawful, mostNodes, mostOutputs}
+use Rattle.drawing.specs.Drawing.{Drawing, drawing, at, isGate, soundAt, sound, names, lawful, mostNodes, mostOutputs}
 use Rattle.drawing.specs.Calls.{inputAnswer, afterInput, gateAnswer, afterGate, outputAnswer, afterOutput}
-use Rattle.drawing.proofs.Sound.{input-right}
+use Rattle.drawing.proofs.Sound.{input-right, gate-range}
 use Rattle.drawing.proofs.Lawful.{lawful-says, lawful-node, lawful-output, gate-sound}
 
 module _ (nodes : List Node) (outputs : List ℕ) where
@@ -62,3 +62,14 @@ module _ (nodes : List Node) (xs : List ℕ) (i o : ℕ) (room : i < length xs) 
 
   pub output-lawful : lawful (drawing nodes (take i xs)) ≡ true → lawful (drawing nodes (take (i + 1) (set xs i o))) ≡ true
   output-lawful h = rw (take-more-set xs i o room) (lawful-output nodes (take i xs) o h (omega (arith, length-take-le i xs (omega arith))) n)
+
+-- a write within the front
+pub take-set-within : {X : Type 0} (n : ℕ) (xs : List X) (i : ℕ) (y : X) → i < n → take n (set xs i y) ≡ set (take n xs) i y
+take-set-within zero xs i y l = absurd (omega arith)
+take-set-within (suc n) [] i y l = refl
+take-set-within (suc n) (x ∷ xs) zero y l = refl
+take-set-within (suc n) (x ∷ xs) (suc i) y l = ap (λ z. x ∷ z) (take-set-within n xs i y (omega arith))
+
+-- a gate of the front lies in it
+pub gate-in-front : (n : ℕ) (xs : List Node) (v : ℕ) → isGate (at (take n xs) v) ≡ true → v < n
+gate-in-front n xs v g = omega (arith, gate-range (take n xs) v g, length-take n xs)

@@ -5,7 +5,7 @@ use mathlib.Core.Bool.{Bool, true, false, cond, _&&_}
 use mathlib.Core.List.{List, [], _∷_, _++_}
 use native.Mathlib.Omega.{arith}
 use lib.Dec.{eqb, ltb, leb}
-use lib.ListN.{length, getD, take, set, length-append}
+use lib.ListN.{length, getD, take, set, length-set}
 use Rattle.std.proofs.shelf.Tests.{and-parts, and-from, ltb-true, lt-ltb, leb-true, le-leb, ne-eqb}
 use Rattle.std.proofs.shelf.Lists.{length-push, length-take-le, take-more-set}
 use Rattle.std.specs.declared.result.Result.{Result}
@@ -15,9 +15,9 @@ use Rattle.drawing.specs.declared.node.Pair.{Pair}
 use Rattle.drawing.specs.declared.node.Node.{Node}
 use Rattle.drawing.specs.declared.node.Node.the-variants.{Constant, Input, Gate}
 use Rattle.drawing.specs.Sets.{every, In}
-use Rattle.drawing.specs.Drawing.{Drawing, drawing, nodeOf, soundAt, sound, names, lawful, mostNodes, mostOutputs}
+use Rattle.drawing.specs.Drawing.{Drawing, drawing, nodeOf, at, isGate, soundAt, sound, names, lawful, mostNodes, mostOutputs}
 use Rattle.drawing.proofs.Members.{every-in, in-every, in-append}
-use Rattle.drawing.proofs.Sound.{sound-push, sound-some, input-right}
+use Rattle.drawing.proofs.Sound.{sound-push, sound-set, sound-some}
 use mathlib.Core.Logic.{_⊎_, inl, inr, ⊎-elim}
 
 -- the four parts of the law
@@ -80,3 +80,18 @@ lawful-output nodes outputs l h few n =
       nodes-few = w .nodes-few;
       outputs-few = omega (arith, length-push outputs l);
     }
+
+-- a gate tied anew, to nodes below it
+pub lawful-tie : (nodes : List Node) (outputs : List ℕ) (g : ℕ) (p : Pair) → lawful (drawing nodes outputs) ≡ true → isGate (at nodes g) ≡ true → (ltb (nodeOf (p .left)) g && ltb (nodeOf (p .right)) g) ≡ true → lawful (drawing (set nodes g (Gate p)) outputs) ≡ true
+lawful-tie nodes outputs g p h gate b =
+    let w = lawful-says nodes outputs h in
+    let q = and-parts (ltb (nodeOf (p .left)) g) _ b in
+    let l = ltb-true _ _ (q .0) in
+    let e : eqb g 0 ≡ false = ne-eqb g 0 (omega arith) in
+    let s : soundAt g (Gate p) ≡ true = rw e (and-from _ _ refl (and-from _ _ (q .0) (and-from _ _ (q .1) refl))) in
+    says-lawful (set nodes g (Gate p)) outputs record
+      { nodes-sound = sound-set nodes g (Gate p) (w .nodes-sound) s
+      ; outputs-named = λ o i. omega (arith, w .outputs-named o i, length-set nodes g (Gate p))
+      ; nodes-few = omega (arith, w .nodes-few, length-set nodes g (Gate p))
+      ; outputs-few = w .outputs-few
+      }

@@ -5,7 +5,7 @@ use mathlib.Core.Bool.{true, false}
 use mathlib.Core.List.{List, [], _∷_, _++_}
 use native.Mathlib.Omega.{arith}
 use lib.Dec.{eqb}
-use lib.ListN.{length, getD, take, set, replicate}
+use lib.ListN.{length, getD, set, replicate}
 use Rattle.std.proofs.shelf.Bits.{and-le-l}
 use Rattle.std.proofs.shelf.Tests.{cond-both, both-ways}
 use Rattle.drawing.specs.declared.node.Node.{Node}
@@ -27,12 +27,6 @@ binary-zeros (suc n) (suc k) = binary-zeros n k
 pub binary-cons : (v : ℕ) (vs : List ℕ) → v ≤ 1 → Binary vs → Binary (v ∷ vs)
 binary-cons v vs h b zero = h
 binary-cons v vs h b (suc k) = b k
-
-pub binary-take : (n : ℕ) (vs : List ℕ) → Binary vs → Binary (take n vs)
-binary-take zero vs b k = omega arith
-binary-take (suc n) [] b k = omega arith
-binary-take (suc n) (v ∷ vs) b zero = b 0
-binary-take (suc n) (v ∷ vs) b (suc k) = binary-take n vs (λ j. b (suc j)) k
 
 pub binary-set : (vs : List ℕ) (n v : ℕ) → Binary vs → v ≤ 1 → Binary (set vs n v)
 binary-set [] n v b h k = omega arith

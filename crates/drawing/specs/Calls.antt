@@ -3,15 +3,15 @@ use Prim.Native.Nat.{ℕ}
 use mathlib.Core.Bool.{Bool, cond, _&&_}
 use mathlib.Core.List.{List, [], _∷_, _++_}
 use lib.Dec.{ltb}
-use lib.ListN.{length}
+use lib.ListN.{length, set}
 use Rattle.std.specs.declared.result.Result.{Result}
 use Rattle.std.specs.declared.result.Result.the-variants.{Ok, Err}
 use Rattle.std.specs.Results.{isOk}
 use Rattle.drawing.specs.declared.node.Node.the-variants.{Input, Gate}
 use Rattle.drawing.specs.declared.node.Pair.{Pair}
 use Rattle.drawing.specs.declared.refusal.Refusal.{Refusal}
-use Rattle.drawing.specs.declared.refusal.Refusal.the-variants.{NodesFull, OutputsFull, BadLiteral}
-use Rattle.drawing.specs.Drawing.{Drawing, drawing, mostNodes, mostOutputs, names}
+use Rattle.drawing.specs.declared.refusal.Refusal.the-variants.{NodesFull, OutputsFull, BadLiteral, NotAGate}
+use Rattle.drawing.specs.Drawing.{Drawing, drawing, mostNodes, mostOutputs, names, nodeOf, at, isGate}
 
 -- an input gets the next number, if there is one
 abbrev pub inputAnswer : Drawing → Result ℕ Refusal
@@ -38,6 +38,15 @@ outputAnswer d l =
 
 abbrev pub afterOutput : Drawing → ℕ → Drawing
 afterOutput d l = cond (isOk (outputAnswer d l)) (drawing (d .nodes) (d .outputs ++ l ∷ [])) d
+
+-- gate g takes two new literals, if it is one and both name nodes below it
+abbrev pub retieAnswer : Drawing → ℕ → Pair → Result (Unit {0}) Refusal
+retieAnswer d g p =
+    cond (isGate (at (d .nodes) g)) (cond (ltb (nodeOf (p .left)) g && ltb (nodeOf (p .right)) g) (Ok tt) (Err BadLiteral))
+    (Err NotAGate)
+
+abbrev pub afterRetie : Drawing → ℕ → Pair → Drawing
+afterRetie d g p = cond (isOk (retieAnswer d g p)) (drawing (set (d .nodes) g (Gate p)) (d .outputs)) d
 
 -- the fact holds where the call was refused
 abbrev pub Unless : {T : Type 0} → Result T Refusal → Type 0 → Type 0

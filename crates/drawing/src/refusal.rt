@@ -1,6 +1,7 @@
 //! Why a call is refused.
 
 ghost use Rattle.drawing.specs.Refusals.{numberOf, ruleNumber};
+ghost use Rattle.drawing.specs.declared.refusal.Refusal.the-variants.{Text};
 ghost use mathlib.Core.Path.{_≡_};
 
 /// The rule of the text format that a fault breaks.
@@ -77,5 +78,14 @@ impl Refusal {
             Refusal::BadBit(_) => 11,
             Refusal::NoSection => 12,
         }
+    }
+}
+
+/// A fault of a text is passed on as the refusal of the call that read it.
+pub impl From<Fault> for Refusal as FaultRefusal {
+    ghost converts = { λ f r. r ≡ Text f };
+
+    fn from(fault: Fault) -> Refusal {
+        Refusal::Text(fault)
     }
 }

@@ -10,7 +10,7 @@ use Rattle.std.proofs.shelf.Lists.{at-drop-more, at-drop-all, getD-read}
 use Rattle.std.proofs.shelf.Tests.{eqb-false}
 use Rattle.family.specs.Family.{Delay, laterOf, latestFrom, latestAmong}
 
-cond-same : {A : Type 0} (b : Bool) (x : A) → cond b x x ≡ x
+pub cond-same : {A : Type 0} (b : Bool) (x : A) → cond b x x ≡ x
 cond-same true x = refl
 cond-same false x = refl
 

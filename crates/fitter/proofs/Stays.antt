@@ -1,6 +1,6 @@
 -- What the calls that add to a drawing leave of each gate and its list.
 use Prim.Native.Nat.{ℕ, zero, suc, _<_}
-use mathlib.Core.Path.{_≡_, refl, sym, ap, _∙_}
+use mathlib.Core.Path.{_≡_, refl, sym, ap, subst, _∙_}
 use mathlib.Core.Bool.{Bool, true, false, cond}
 use mathlib.Core.List.{List, [], _∷_, _++_}
 use lib.ListN.{length, getD, replicate}
@@ -72,3 +72,7 @@ unless-same (Err e) f u = f u
 
 pub nothing-kept : (held : List Bool) (n : ℕ) → held ≡ replicate n false → (v : ℕ) → getD held v false ≡ true → ⊥
 nothing-kept held n e v h = none-kept n v (rw e at h)
+
+-- a fact holds where the answer is a refusal
+pub unless-is : {T P : Type 0} (r : Result T Refusal) (e : Refusal) → r ≡ Err e → P → Unless r P
+unless-is {T} {P} r e is p = subst (λ z. Unless z P) (sym is) p

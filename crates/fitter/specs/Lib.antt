@@ -3,3 +3,4 @@ pub mod Keeping
 pub mod Book
 pub mod Jobs
 pub mod Making
+pub mod Taking

@@ -2,6 +2,7 @@
 
 pub mod calls;
 mod making;
+mod taking;
 
 use crate::kept::Kept;
 use drawing::table::Table;

@@ -82,7 +82,8 @@ fn write_outputs(outputs: &[u16], values: &[u8; 512], out: &mut [u8])
 {
     for k in 0..outputs.len() {
         let literal = outputs[k];
-        out[k] = turn(values[2 * (literal as usize / 2)], literal);
+        let value = values[2 * (literal as usize / 2)];
+        out[k] = (turn(value as u32, literal) & 1) as u8;
     }
 }
 

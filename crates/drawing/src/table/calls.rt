@@ -5,10 +5,12 @@ use crate::node::Node;
 use crate::node::Pair;
 use crate::refusal::Refusal;
 ghost use Prim.Native.Nat.{_≤_};
-ghost use Rattle.drawing.specs.Calls.{afterGate, afterInput, afterOutput, gateAnswer, inputAnswer, outputAnswer, Unless};
-ghost use Rattle.drawing.specs.Drawing.{drawing, lawful, mostNodes, mostOutputs, names, newDrawing};
+ghost use Rattle.drawing.specs.Calls.{afterGate, afterInput, afterOutput, afterRetie, gateAnswer, inputAnswer, outputAnswer, retieAnswer, Unless};
+ghost use Rattle.drawing.specs.Drawing.{at, drawing, isGate, lawful, mostNodes, mostOutputs, names, newDrawing, nodeOf};
 ghost use Rattle.drawing.specs.Tables.{drawingOf};
-ghost use lib.ListN.{take};
+ghost use Rattle.drawing.specs.declared.node.Node.the-variants.{Gate};
+ghost use lib.Dec.{ltb};
+ghost use lib.ListN.{set, take};
 ghost use mathlib.Core.Bool.{_&&_, true};
 ghost use mathlib.Core.Path.{_≡_};
 
@@ -123,4 +125,46 @@ impl Table {
         self.output_count = place + 1;
         Ok(place as u8)
     }
+
+    /// Whether the number is a gate's.
+    pub fn is_gate(&self, v: u8) -> bool
+        ensures { λ r. ⌜ r ≡ isGate (at (drawingOf (now (self .entry)) .nodes) v) ⌝ }
+    {
+        let nodes = self.nodes();
+        let v = v as usize;
+        v < nodes.len() && nodes[v].is_gate()
+    }
+
+    /// Changes one record of the table.
+    fn tie(&mut self, v: u8, pair: Pair)
+        requires gate { ⌜ isGate (at (drawingOf (now self) .nodes) v) ≡ true ⌝ }
+        requires below { ⌜ (ltb (nodeOf (pair .left)) v && ltb (nodeOf (pair .right)) v) ≡ true ⌝ }
+        ensures { λ _. ⌜ drawingOf (now (self .exit)) ≡ drawing (set (drawingOf (now (self .entry)) .nodes) v (Gate pair)) (drawingOf (now (self .entry)) .outputs) ⌝ }
+    {
+        let record = &mut self.nodes[v as usize];
+        *record = Node::Gate(pair);
+    }
+
+    /// Gives a gate two new literals.
+    pub fn retie(&mut self, gate: u8, pair: Pair) -> Result<(), Refusal>
+        ensures answer { λ r. ⌜ r ≡ retieAnswer (drawingOf (now (self .entry))) gate pair ⌝ }
+        ensures after { λ _. ⌜ drawingOf (now (self .exit)) ≡ afterRetie (drawingOf (now (self .entry))) gate pair ⌝ }
+        ensures refused { λ r. ⌜ Unless r (now (self .exit) ≡ now (self .entry)) ⌝ }
+    {
+        if !self.is_gate(gate) {
+            return Err(Refusal::NotAGate);
+        }
+        if !are_below(pair, gate) {
+            return Err(Refusal::BadLiteral);
+        }
+        self.tie(gate, pair);
+        Ok(())
+    }
+}
+
+/// Whether both literals name nodes below `v`.
+fn are_below(pair: Pair, v: u8) -> bool
+    ensures { λ r. ⌜ r ≡ (ltb (nodeOf (pair .left)) v && ltb (nodeOf (pair .right)) v) ⌝ }
+{
+    pair.left / 2 < v as u16 && pair.right / 2 < v as u16
 }

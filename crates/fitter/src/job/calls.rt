@@ -1,15 +1,19 @@
 //! The calls that make a drawing and set the width.
 
 use super::Job;
+use crate::above::dependents;
 use crate::kept::Kept;
+use aiger::read;
 use drawing::node::Pair;
+use drawing::refusal::FaultRefusal;
 use drawing::refusal::Refusal;
 use drawing::table::Table;
-ghost use Rattle.drawing.specs.Calls.{gateAnswer, inputAnswer, outputAnswer, Unless};
+ghost use Prim.Native.Nat.{ℕ};
+ghost use Rattle.drawing.specs.Calls.{gateAnswer, inputAnswer, outputAnswer, retieAnswer, Unless};
 ghost use Rattle.drawing.specs.Drawing.{mostNodes};
-ghost use Rattle.fitter.specs.Book.{gateBook, inputBook, keptAfterWidth, newBook, outputBook, widthAnswer, widthBook};
+ghost use Rattle.fitter.specs.Book.{gateBook, inputBook, keptAfterLoad, keptAfterRetie, keptAfterWidth, loadAnswer, loadBook, newBook, outputBook, retieBook, widthAnswer, widthBook};
 ghost use Rattle.fitter.specs.Jobs.{bookOf, keptOf};
-ghost use lib.ListN.{replicate};
+ghost use lib.ListN.{getD, replicate};
 ghost use mathlib.Core.Bool.{false};
 ghost use mathlib.Core.Path.{_≡_};
 
@@ -70,6 +74,32 @@ impl Job {
             self.lists.clear();
             self.width = width;
         }
+        Ok(())
+    }
+
+    /// Replaces the drawing by that of a text. Nothing is kept then, and the width stays.
+    pub fn load(&mut self, text: &[u8]) -> Result<(), Refusal>
+        ensures answer { λ r. ⌜ r ≡ loadAnswer (now (text .entry)) ⌝ }
+        ensures book { λ _. ⌜ bookOf (now (self .exit)) ≡ loadBook (now (text .entry)) (bookOf (now (self .entry))) ⌝ }
+        ensures lists { λ _. ⌜ keptOf (now (self .exit)) ≡ keptAfterLoad (now (text .entry)) (keptOf (now (self .entry))) ⌝ }
+        ensures refused { λ r. ⌜ Unless r (now (self .exit) ≡ now (self .entry)) ⌝ }
+    {
+        let table = read(text)?;
+        self.lists.clear();
+        self.table = table;
+        Ok(())
+    }
+
+    /// Gives a gate two new literals. That gate and every gate that depends on it are no longer kept.
+    pub fn retie(&mut self, gate: u8, pair: Pair) -> Result<(), Refusal>
+        ensures answer { λ r. ⌜ r ≡ retieAnswer (bookOf (now (self .entry)) .drawing) gate pair ⌝ }
+        ensures book { λ _. ⌜ bookOf (now (self .exit)) ≡ retieBook gate pair (bookOf (now (self .entry))) ⌝ }
+        ensures lists { λ _. ⌜ ((u : ℕ) → getD (keptOf (now (self .exit))) u false ≡ keptAfterRetie gate pair (bookOf (now (self .entry))) (keptOf (now (self .entry))) u) ⌝ }
+        ensures refused { λ r. ⌜ Unless r (now (self .exit) ≡ now (self .entry)) ⌝ }
+    {
+        let above = dependents(self.table.nodes(), gate);
+        self.table.retie(gate, pair)?;
+        self.lists.forget(&above);
         Ok(())
     }
 }

@@ -53,7 +53,7 @@ impl Job {
     }
 
     /// Whether node v is a needed gate.
-    fn needs(&self, v: u8, marks: &[bool; 256]) -> bool
+    pub(super) fn needs(&self, v: u8, marks: &[bool; 256]) -> bool
         requires inside { ⌜ v < length (bookOf (now self) .drawing .nodes) ⌝ }
         requires marked { ⌜ MarksNeeded (bookOf (now self) .drawing) (now marks) ⌝ }
         ensures { λ r. ⌜ r ≡ neededIn (bookOf (now (self .entry))) v ⌝ }

@@ -2,13 +2,14 @@
 
 use super::Kept;
 use cuts::cut::Cut;
+use drawing::table::calls::MOST_NODES;
 ghost use Prim.Native.Nat.{ℕ, _*_, _+_, _<_, _≤_};
 ghost use Rattle.cuts.specs.Limits.{mostCuts};
 ghost use Rattle.drawing.specs.Drawing.{mostNodes};
 ghost use Rattle.fitter.specs.Keeping.{heldOf, rowOf};
 ghost use Rattle.fitter.specs.Rows.{flatRows, rowAt};
 ghost use lib.ListN.{getD, length, replicate, set};
-ghost use mathlib.Core.Bool.{false, true};
+ghost use mathlib.Core.Bool.{_&&_, false, not, true};
 ghost use mathlib.Core.List.{List};
 ghost use mathlib.Core.Path.{_≡_};
 
@@ -71,5 +72,19 @@ impl Kept {
         ensures { λ _. ⌜ heldOf (now (self .exit)) ≡ replicate mostNodes false ⌝ }
     {
         self.held = [false; 256];
+    }
+
+    /// Forgets the lists of the marked nodes.
+    pub fn forget(&mut self, marks: &[bool; 256])
+        ensures held { λ _. ⌜ ((u : ℕ) → getD (heldOf (now (self .exit))) u false ≡ (getD (heldOf (now (self .entry))) u false && not (getD (now (marks .entry)) u false))) ⌝ }
+        ensures rows { λ _. ⌜ ((u : ℕ) → rowOf (now (self .exit)) u ≡ rowOf (now (self .entry)) u) ⌝ }
+    {
+        let mut held = self.held;
+        for u in 0..MOST_NODES {
+            if marks[u] {
+                held[u] = false;
+            }
+        }
+        self.held = held;
     }
 }

@@ -1,4 +1,4 @@
-use mathlib.Core.Path.{_≡_, refl, subst}
+use mathlib.Core.Path.{_≡_, subst}
 use mathlib.Core.List.{[], _∷_, _++_}
 use Prim.Native.Nat.{_-_, pred}
 use native.Mathlib.Omega.{arith}

@@ -32,7 +32,7 @@ push-gate-requires c κs =
     let e = sym (c .loop-v .inv) in
     let ls = sym (c .leaves .ensures ∙ stored-at leavesOf (c .args .cuts .now) v (c .index-cuts-v .result) (omega arith) (c .index-cuts-v .is)) in
     record {
-      room = subst (λ (n : Netlist). length (n .cells) < mostCells) e (omega (arith, piece-room nodes [] mostLeaves picked given right few R v here, c .pre .few));
+      room = subst (λ (n : Netlist). length (n .cells) < mostCells) e (omega (arith, piece-room nodes [] mostLeaves picked given right few R v here (c .pre .few), c .pre .few));
       right = right;
       there = omega arith;
       positive = piece-positive nodes [] mostLeaves picked given right few R v here;

@@ -1,5 +1,4 @@
 use native.Mathlib.Omega.{arith}
-use mathlib.Core.Path.{_≡_, refl}
 use Rattle.drawing.specs.declared.node.Node.the-variants.{Gate}
 use Rattle.cuts.proofs.Choosing.{gate-inside, read-at, left-fanin, right-fanin, at-hand, copied-list}
 use Rattle.cuts.proofs.list.make_list.Needs as need

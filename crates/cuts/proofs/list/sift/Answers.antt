@@ -1,7 +1,7 @@
 use native.Mathlib.Omega.{arith}
-use mathlib.Core.Path.{_≡_, sym, ap, subst, _∙_}
-use mathlib.Core.Bool.{not, true}
-use Rattle.std.proofs.shelf.Filters.{Keeping, keeping-more-no, keeping-more-set}
+use mathlib.Core.Path.{sym, ap, _∙_}
+use mathlib.Core.Bool.{not}
+use Rattle.std.proofs.shelf.Filters.{keeping-more-no, keeping-more-set}
 use Rattle.drawing.specs.Sets.{sub}
 use Rattle.cuts.specs.Leaves.{leavesOf}
 use Rattle.cuts.proofs.Noting.{sifted, keeping-at}

@@ -1,8 +1,6 @@
-use mathlib.Core.Path.{_≡_, refl, sym, ap, subst, _∙_}
-use mathlib.Core.List.{[], _∷_}
-use Prim.Native.Nat.{ℕ, suc, _+_, _≤_, _<_}
+use mathlib.Core.Path.{_≡_, sym, ap, _∙_}
+use Prim.Native.Nat.{_+_, _<_}
 use native.Mathlib.Omega.{arith}
-use Rattle.aiger.specs.declared.reader.Part.the-variants.{Header}
 use Rattle.aiger.specs.Reads.{width}
 use Rattle.aiger.specs.States.{closing}
 use Rattle.aiger.proofs.Ends.{heading-fails, heading-passes, fresh-draft}

@@ -1,11 +1,11 @@
 use mathlib.Core.Path.{_≡_, refl, sym, ap, _∙_}
 use mathlib.Core.List.{[]}
-use Prim.Native.Nat.{ℕ, suc, _+_, _-_}
+use Prim.Native.Nat.{suc, _+_, _-_}
 use native.Mathlib.Omega.{arith}
 use Rattle.std.specs.declared.option.Option.the-variants.{None}
-use Rattle.aiger.specs.declared.reader.Part.the-variants.{Inputs, Outputs, Gates}
+use Rattle.aiger.specs.declared.reader.Part.the-variants.{Outputs, Gates}
 use Rattle.drawing.specs.declared.refusal.Rule.the-variants.{Literal}
-use Rattle.aiger.specs.Reads.{scan, after, fits, fault, add, width, readLines, plan}
+use Rattle.aiger.specs.Reads.{scan, after, fits, fault, add, readLines, plan}
 use Rattle.aiger.specs.States.{drafted}
 use Rattle.aiger.proofs.reader.Reader.next.Needs as need
 

@@ -24,7 +24,7 @@ ghost-self c =
         (s .within .0, omega arith, s .within .2),
         (
           subst (λ (cs : List Cell). lawfulCover (netlist (n .inputs) cs (n .outputs)) ≡ true) (sym (take-more-set (s .cells) (s .«cell_count») (c .args .cell) h))
-              (lawful-cell n (c .args .cell) (s .law) (c .pre .positive) (c .pre .above) (c .pre .law)),
+              (lawful-cell n (c .args .cell) (s .law) (c .pre .positive) (omega arith) (c .pre .above) (c .pre .law)),
           tt,
         ),
       ),

@@ -23,7 +23,7 @@ ghost-self c =
         (omega arith, s .within .1, s .within .2),
         (
           subst (λ (is : List ℕ). lawfulCover (netlist is (n .cells) (n .outputs)) ≡ true) (sym (take-more-set (s .inputs) (s .«input_count») (c .args .number) h))
-              (lawful-input n (c .args .number) (s .law) (c .pre .cells) (c .pre .outputs) (c .pre .positive) (c .pre .above)),
+              (lawful-input n (c .args .number) (s .law) (c .pre .cells) (c .pre .outputs) (c .pre .positive) (omega arith) (c .pre .above)),
           tt,
         ),
       ),

@@ -6,7 +6,7 @@ use Rattle.std.proofs.shelf.Bits.{and-mask}
 use Rattle.drawing.specs.Drawing.{mostLeaves}
 use Rattle.cells.specs.Truth.{bit}
 use Rattle.cells.specs.Netlist.{rowOf, leavesOf}
-use Rattle.cells.proofs.Pins.{low-bit}
+use Rattle.cells.proofs.Words.{bit-small}
 use Rattle.cells.proofs.LeafRows.{row-below, row-more, row-none}
 use Rattle.cells.proofs.cover.evaluate.cell_value.Needs as need
 
@@ -27,4 +27,5 @@ returns c =
     let z : c .loop-j .j ≡ 0 = omega arith in
     let f : ℕ → ℕ = λ k. getD (c .args .values .now) k 0 in
     let e : c .loop-j .row ≡ rowOf f (leavesOf (c .args .cell)) = c .loop-j .inv ∙ ap (λ j. rowOf f (drop j (leavesOf (c .args .cell)))) z in
-    record { is = and-mask (c .args .cell .table / 2 ^ c .loop-j .row) 1 ∙ ap (λ m. bit (c .args .cell .table) m) e; small = low-bit _ }
+    let t = and-mask (c .args .cell .table / 2 ^ c .loop-j .row) 1 in
+    record { is = t ∙ ap (λ m. bit (c .args .cell .table) m) e; small = omega (arith, t, bit-small (c .args .cell .table) (c .loop-j .row)) }

@@ -2,13 +2,18 @@ use mathlib.Core.Path.{_≡_, refl, sym, ap, subst, _∙_}
 use mathlib.Core.List.{List, [], _∷_, _++_, map}
 use Prim.Native.Nat.{ℕ, _<_, _≤_}
 use native.Mathlib.Omega.{arith}
+use lib.Bits.{bitAnd}
 use lib.Dec.{ltb}
 use lib.ListN.{length, getD, drop, take}
+use Rattle.std.proofs.shelf.Bits.{and-mask}
 use Rattle.std.proofs.shelf.Lists.{take-all}
 use Rattle.std.proofs.shelf.Tests.{ltb-true}
 use Rattle.drawing.specs.Drawing.{nodeOf, mostNodes}
 use Rattle.drawing.proofs.Lists.{every-at}
-use Rattle.cells.specs.Netlist.{outputValue}
+use Rattle.drawing.specs.Values.{turned}
+use Rattle.cells.specs.Truth.{bit}
+use Rattle.cells.specs.Netlist.{plain, outputValue}
+use Rattle.cells.proofs.Words.{bit-first}
 use Rattle.cells.proofs.Buffers.{put-map}
 use Rattle.cells.proofs.cover.evaluate.write_outputs.Needs as need
 
@@ -19,8 +24,15 @@ index-values-literal c =
 
 pub loop-k-again : need.loop-k-again
 loop-k-again c =
-    put-map (outputValue (λ n. getD (c .args .values .now) n 0)) (c .args .outputs .now) (c .args .out .now) (c .loop-k .out) (c .loop-k .k) (c .turn .result)
-    (omega arith) (omega arith) (c .turn .ensures .is) (c .loop-k .inv)
+    let k = c .loop-k .k in
+    let l = getD (c .args .outputs .now) k 0 in
+    let v = getD (c .args .values .now) (plain (nodeOf l)) 0 in
+    let small = c .pre .small (plain (nodeOf l)) in
+    let own : bit v 0 ≡ v = bit-first v ∙ (omega arith) in
+    let is : bitAnd (c .turn .result) 1 ≡ turned v l =
+    and-mask (c .turn .result) 1 ∙ sym (bit-first (c .turn .result)) ∙ c .turn .ensures 0 (omega arith) ∙ ap (λ x. turned x l) own in
+    put-map (outputValue (λ n. getD (c .args .values .now) n 0)) (c .args .outputs .now) (c .args .out .now) (c .loop-k .out) k (bitAnd (c .turn .result) 1)
+    (omega arith) (omega arith) is (c .loop-k .inv)
 
 pub returns : need.returns
 returns c =

@@ -1,9 +1,8 @@
 use native.Mathlib.Omega.{arith}
 use Prim.Native.Nat.{_<_}
-use mathlib.Core.Path.{_≡_, ap, _∙_}
-use lib.ListN.{take}
+use mathlib.Core.Path.{ap, _∙_}
 use Rattle.std.proofs.shelf.Lists.{length-take-le, length-set}
-use Rattle.drawing.specs.Sets.{rises, union}
+use Rattle.drawing.specs.Sets.{rises}
 use Rattle.drawing.proofs.SetLaws.{rises-union}
 use Rattle.cuts.specs.Leaves.{leavesOf}
 use Rattle.cuts.proofs.Rows.{row-more, merge-full, merge-done}

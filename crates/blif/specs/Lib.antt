@@ -1,0 +1,5 @@
+pub mod Put
+pub mod Text
+pub mod Sections
+pub mod Reading
+pub mod Meaning
