@@ -1,23 +1,17 @@
 -- The chosen cover is the rival that takes the best cuts: what holds of it.
 use Prim.Native.Nat.{ℕ, _≤_, _<_}
-use mathlib.Core.Path.{_≡_, refl, sym, ap, subst, _∙_}
-use mathlib.Core.Bool.{Bool, true}
-use mathlib.Core.List.{List}
+use mathlib.Core.Path.{_≡_, refl, ap, subst, _∙_}
+use mathlib.Core.Bool.{true}
 use lib.ListN.{length, getD}
-use Rattle.std.proofs.shelf.Tests.{and-parts}
 use Rattle.drawing.specs.Sets.{In}
-use Rattle.drawing.specs.Drawing.{Drawing, drawing, at, nodeOf, isGate, lawful, mostLeaves}
-use Rattle.drawing.specs.Values.{Binary, outputValues}
-use Rattle.drawing.proofs.Lawful.{Lawfully, lawful-says}
+use Rattle.drawing.specs.Drawing.{Drawing, at, nodeOf, isGate, lawful}
+use Rattle.drawing.proofs.Lawful.{lawful-says}
 use Rattle.family.specs.Family.{Delay, Laws}
-use Rattle.choice.specs.Choice.{best, takenCut, isCell, cells}
+use Rattle.choice.specs.Choice.{takenCut, isCell, cells}
 use Rattle.choice.specs.Rivals.{Rival, arrivals}
 use Rattle.choice.proofs.OwnCover.{own-rival, own-arrivals}
 use Rattle.choice.proofs.Needed.{outputs-first}
-use Rattle.cells.specs.declared.cell.Cell.{Cell}
-use Rattle.cells.specs.Netlist.{Netlist, leavesOf, answers}
-use Rattle.cells.specs.Laws.{lawfulCover}
-use Rattle.cells.specs.Covers.{Covers}
+use Rattle.cells.specs.Netlist.{Netlist}
 use Rattle.cells.proofs.Agree.{covers-agree}
 use Rattle.covering.specs.Chosen.{coverBy, chosen}
 use Rattle.covering.specs.Times.{coverArrival}
