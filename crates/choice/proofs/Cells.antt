@@ -19,7 +19,7 @@ use Rattle.drawing.proofs.Sound.{fanins-below}
 use Rattle.drawing.proofs.ReachLaws.{reach-is, reach-range, reach-ways, out-direct}
 use Rattle.cuts.proofs.Leaves.{leaves-depend}
 use Rattle.family.specs.Family.{Delay, Laws}
-use Rattle.choice.specs.Choice.{takenCut, edgesOf, isCell, cutAt, Chosen}
+use Rattle.choice.specs.Choice.{takenCut, edgesOf, isCell, Chosen}
 use Rattle.choice.specs.Marks.{Marks, edgesBy}
 use Rattle.choice.proofs.OwnCover.{taken-listed, edges-below, gate-range}
 use Rattle.choice.proofs.Needed.{reached-down}

@@ -16,7 +16,7 @@ use Rattle.drawing.specs.Drawing.{at, isGate}
 use Rattle.drawing.proofs.SetLaws.{says-sub, part-length}
 use Rattle.drawing.proofs.ColumnLaws.{column-at, length-lower}
 use Rattle.cuts.specs.Cuts.{leastCuts}
-use Rattle.cuts.proofs.LeastCuts.{cut-says, least-inside, in-list}
+use Rattle.cuts.proofs.LeastCuts.{Cut, cut-says, least-inside, in-list}
 use Rattle.family.specs.Family.{Delay, Laws, cellArrival}
 use Rattle.drawing.specs.Drawing.{mostLeaves}
 use Rattle.family.specs.Folds.{Earlier}
@@ -70,6 +70,16 @@ module _ {A : Type 0} (F : Delay A) (L : Laws F) where
             ∙ ap (rivalStep F given lower) e
             ∙ ap (λ n. cellArrival F lower (given n)) (length-lower (rivalStep F given) nodes v (omega arith))
 
+    -- no cut of a gate with at most k leaves is earlier, by the best arrivals below
+    pub best-by-cut : k ≤ mostLeaves → (v : ℕ) (s : List ℕ) → v < length nodes → isGate (at nodes v) ≡ true → Cut nodes v s → length s ≤ k → F .notLater (getD (best F nodes k) v (F .start)) (cellArrival F (take v (best F nodes k)) s) ≡ true
+    best-by-cut few v s l g c short =
+        let m = least-inside nodes v s c in
+        let shorter = part-length 0 0 (m .0) s (m .1 .isCut .rising) (c .rising) (m .2) in
+        let listed = in-list nodes k v (m .0) (m .1) (omega arith) in
+        let lower = take v (best F nodes k) in
+        rw (best-gate v l g)
+        (L .trans _ _ _ (taken-first lower (leastCuts nodes k v) (m .0) listed) (cell-not-later F L lower lower (m .0) s shorter (omega arith) (says-sub (m .0) s (m .2)) (λ u i. ⊎-elim (λ h. h) (λ h. h) (L .total _ _))))
+
     module _ (chosen : ℕ → Bool) (given : ℕ → List ℕ) (outs : List ℕ) (few : k ≤ mostLeaves) (R : Rival nodes outs k chosen given) where
       earliest′ : (bound v : ℕ) → v < bound → chosen v ≡ true → F .notLater (getD (best F nodes k) v (F .start)) (getD (arrivals F nodes given) v (F .start)) ≡ true
       earliest′ zero v l c = absurd (omega arith)
@@ -77,18 +87,15 @@ module _ {A : Type 0} (F : Delay A) (L : Laws F) where
           let g = R .gates v c in
           let q = R .cuts v c in
           let cutV = cut-says nodes v (given v) (q .0) in
-          let m = least-inside nodes v (given v) cutV in
-          let shorter = part-length 0 0 (m .0) (given v) (m .1 .isCut .rising) (cutV .rising) (m .2) in
-          let listed = in-list nodes k v (m .0) (m .1) (omega (arith, q .1)) in
           let lowB = take v (best F nodes k) in
           let lowR = take v (arrivals F nodes given) in
-          let leaf : Earlier F lowB lowR (m .0) = λ u i.
-          let below = cutV .under u (m .2 u i) in
+          let leaf : Earlier F lowB lowR (given v) = λ u i.
+          let below = cutV .under u i in
           let x : F .notLater (getD (best F nodes k) u (F .start)) (getD (arrivals F nodes given) u (F .start)) ≡ true =
-          ⊎-elim (λ h. earliest′ bound u (omega arith) (R .leaves v u c (m .2 u i) h)) (λ h. rw (best-plain u (omega (arith, g .0)) h) (L .first _)) (cases-bool (isGate (at nodes u))) in
+          ⊎-elim (λ h. earliest′ bound u (omega arith) (R .leaves v u c i h)) (λ h. rw (best-plain u (omega (arith, g .0)) h) (L .first _)) (cases-bool (isGate (at nodes u))) in
           rw (getD-take v (best F nodes k) u (F .start) below, getD-take v (arrivals F nodes given) u (F .start) below) x in
-          rw (best-gate v (g .0) (g .1), arrivals-gate given v (g .0) (g .1))
-          (L .trans _ _ _ (taken-first lowB (leastCuts nodes k v) (m .0) listed) (cell-not-later F L lowB lowR (m .0) (given v) shorter (omega (arith, q .1)) (says-sub (m .0) (given v) (m .2)) leaf))
+          L .trans _ _ _ (best-by-cut few v (given v) (g .0) (g .1) cutV (q .1))
+          (rw (arrivals-gate given v (g .0) (g .1)) (cell-not-later F L lowB lowR (given v) (given v) (omega arith) (omega (arith, q .1)) (says-sub (given v) (given v) (λ u i. i)) leaf))
 
       pub earliest : (v : ℕ) → chosen v ≡ true → F .notLater (getD (best F nodes k) v (F .start)) (getD (arrivals F nodes given) v (F .start)) ≡ true
       earliest v c = earliest′ (suc v) v (omega arith) c

@@ -1,15 +1,15 @@
 -- The marks and the cuts of the needed gates make the chosen cover.
-use Prim.Native.Nat.{ℕ, _≤_, _<_}
-use mathlib.Core.Path.{_≡_, refl, sym, ap, subst, _∙_}
-use mathlib.Core.Bool.{Bool, true, _&&_}
-use mathlib.Core.List.{List, [], map}
+use Prim.Native.Nat.{ℕ, _≤_}
+use mathlib.Core.Path.{_≡_, sym, ap, subst, _∙_}
+use mathlib.Core.Bool.{Bool, true}
+use mathlib.Core.List.{List, []}
 use native.Mathlib.Omega.{arith}
-use lib.ListN.{length, getD}
+use lib.ListN.{length}
 use Rattle.std.specs.Iters.{counting}
 use Rattle.std.proofs.shelf.Lists.{length-map}
 use Rattle.drawing.specs.declared.node.Node.{Node}
-use Rattle.drawing.specs.Sets.{mem, every, keep, In}
-use Rattle.drawing.specs.Drawing.{drawing, at, nodeOf, isGate, lawful, mostLeaves}
+use Rattle.drawing.specs.Sets.{mem, every, keep}
+use Rattle.drawing.specs.Drawing.{drawing, nodeOf, lawful, mostLeaves}
 use Rattle.drawing.specs.Values.{inputsOf}
 use Rattle.drawing.proofs.Members.{in-every, keep-in, keep-same, map-same}
 use Rattle.drawing.proofs.Lawful.{lawful-says}

@@ -1,16 +1,15 @@
--- The pass that puts in the inputs: what one more needs, and the inputs then.
-use Prim.Native.Nat.{ℕ, _+_, _≤_, _<_}
+-- The passes that fill a cover: what one more input needs and the inputs then, and the set that stands at a node.
+use Prim.Native.Nat.{ℕ, _+_, _<_}
 use mathlib.Core.Path.{_≡_, refl, sym, ap, subst, _∙_}
 use mathlib.Core.Logic.{⊎-elim, _≢_}
-use mathlib.Core.Bool.{Bool, true, false, cond, _&&_}
+use mathlib.Core.Bool.{true, false, cond}
 use mathlib.Core.List.{List, [], _∷_, _++_, map}
 use native.Mathlib.Omega.{arith}
-use lib.Dec.{ltb}
 use lib.ListN.{length, getD, take}
 use Rattle.std.proofs.shelf.Lists.{take-more, length-take-le, getD-take, getD-map, append-nil}
 use Rattle.std.proofs.shelf.Tests.{both-ways, cases-eq}
 use Rattle.drawing.specs.declared.node.Node.{Node}
-use Rattle.drawing.specs.declared.node.Node.the-variants.{Constant, Input, Gate}
+use Rattle.drawing.specs.declared.node.Node.the-variants.{Constant}
 use Rattle.drawing.specs.Sets.{below}
 use Rattle.drawing.specs.Drawing.{at, isInput, sound}
 use Rattle.drawing.specs.Values.{inputsOf}

@@ -1,12 +1,12 @@
 -- A rival is a lawful cover of the drawing: the pieces that it is made of, one behind the other, keep the laws.
 use Prim.Native.Nat.{ℕ, zero, suc, _+_, _≤_, _<_}
 use mathlib.Core.Path.{_≡_, refl, sym, ap, subst, _∙_}
-use mathlib.Core.Logic.{_⊎_, inl, inr, ⊎-elim}
-use mathlib.Core.Bool.{Bool, true, false, cond, _&&_, _||_}
+use mathlib.Core.Logic.{_⊎_, ⊎-elim}
+use mathlib.Core.Bool.{Bool, true, false, cond}
 use mathlib.Core.List.{List, [], _∷_, _++_, map}
 use native.Mathlib.Omega.{arith}
 use native.Mathlib.Numerals.{add-one}
-use lib.Dec.{eqb, ltb}
+use lib.Dec.{eqb}
 use lib.ListN.{length}
 use Rattle.std.specs.Iters.{counting}
 use Rattle.std.proofs.shelf.Counted.{map-counting-more}
@@ -14,9 +14,8 @@ use Rattle.std.proofs.shelf.Elements.{kept-by-append}
 use Rattle.std.proofs.shelf.Lists.{map-id, map-push, append-nil, length-map}
 use Rattle.std.proofs.shelf.Tests.{and-parts, and-from, or-left, or-right, eq-eqb, cases-bool, cases-eq}
 use Rattle.drawing.specs.declared.node.Node.{Node}
-use Rattle.drawing.specs.declared.node.Node.the-variants.{Constant, Input, Gate}
-use Rattle.drawing.specs.Sets.{mem, rises, below, every, keep, In}
-use Rattle.drawing.specs.Drawing.{Drawing, drawing, at, nodeOf, isGate, sound, lawful, mostNodes, mostLeaves}
+use Rattle.drawing.specs.Sets.{mem, rises, below, keep, In}
+use Rattle.drawing.specs.Drawing.{drawing, at, nodeOf, isGate, sound, lawful, mostNodes, mostLeaves}
 use Rattle.drawing.specs.Values.{inputsOf}
 use Rattle.drawing.proofs.Members.{in-every, in-mem, mem-in, in-keep, keep-in, in-counting, counting-in, map-in}
 use Rattle.drawing.proofs.SetLaws.{rises-mem, says-below}

@@ -1,7 +1,7 @@
 -- The arrivals of a rival's cells, one behind the other, are those of the rival.
 use Prim.Native.Nat.{ℕ, zero, suc, _+_, _≤_, _<_}
 use mathlib.Core.Path.{_≡_, refl, sym, ap, subst, _∙_}
-use mathlib.Core.Logic.{_⊎_, inl, inr, ⊎-elim, _≢_}
+use mathlib.Core.Logic.{_⊎_, ⊎-elim, _≢_}
 use mathlib.Core.Bool.{Bool, true, false, cond, _&&_}
 use mathlib.Core.List.{List, [], _∷_, _++_, map}
 use native.Mathlib.Omega.{arith}
@@ -11,16 +11,15 @@ use lib.ListN.{length, getD, take}
 use Rattle.std.proofs.shelf.Lists.{getD-take}
 use Rattle.std.proofs.shelf.Tests.{and-from, and-left, and-right, eq-eqb, ne-eqb, lt-ltb, le-ltb, cases-bool, cases-eq, cases-lt, cond-true, cond-false, cond-both}
 use Rattle.drawing.specs.declared.node.Node.{Node}
-use Rattle.drawing.specs.Sets.{mem, In}
 use Rattle.drawing.specs.Drawing.{drawing, at, isGate}
 use Rattle.drawing.proofs.Members.{in-mem, map-same}
 use Rattle.cuts.proofs.LeastCuts.{cut-says}
-use Rattle.family.specs.Family.{Delay, Laws, latest, cellArrival}
+use Rattle.family.specs.Family.{Delay, Laws, latest}
 use Rattle.choice.specs.Rivals.{arrivals, Rival}
 use Rattle.choice.proofs.Optimal.{arrivals-gate}
 use Rattle.choice.proofs.OwnCover.{arrivals-plain}
 use Rattle.cells.specs.declared.cell.Cell.{Cell}
-use Rattle.cells.specs.Netlist.{cellOf, leavesOf}
+use Rattle.cells.specs.Netlist.{cellOf}
 use Rattle.cells.proofs.Tables.{leaves-of-cell}
 use Rattle.covering.specs.Chosen.{coverUpTo, coverBy}
 use Rattle.covering.specs.Times.{timeAt, cellTime, timesAfter, coverArrival}

@@ -25,9 +25,13 @@ Everywhere P = (d : Drawing) (k : ℕ) → lawful d ≡ true → 2 ≤ k → k �
 abbrev pub Lawfully-covers : Drawing → Netlist → Type 0
 Lawfully-covers d n = (lawfulCover n ≡ true) × Covers d n
 
--- any rival is a lawful cover of the drawing
+-- no cell has more than k leaves
+abbrev pub Narrow : ℕ → Netlist → Type 0
+Narrow k n = (c : Cell) → In c (n .cells) → length (leavesOf c) ≤ k
+
+-- any rival is a lawful cover of the drawing, and no cell has more than k leaves
 abbrev pub Rivals-cover : Type 0
-Rivals-cover = Everywhere (λ d k. (picked : ℕ → Bool) (given : ℕ → List ℕ) → Rival (d .nodes) (d .outputs) k picked given → Lawfully-covers d (coverBy d picked given))
+Rivals-cover = Everywhere (λ d k. (picked : ℕ → Bool) (given : ℕ → List ℕ) → Rival (d .nodes) (d .outputs) k picked given → Lawfully-covers d (coverBy d picked given) × Narrow k (coverBy d picked given))
 
 module _ {A : Type 0} (F : Delay A) where
   -- the chosen cover is a lawful cover of the drawing
@@ -40,11 +44,15 @@ module _ {A : Type 0} (F : Delay A) where
 
   -- no cell has more than k leaves
   abbrev pub Chosen-narrow : Type 0
-  Chosen-narrow = Everywhere (λ d k. (c : Cell) → In c (chosen F d k .cells) → length (leavesOf c) ≤ k)
+  Chosen-narrow = Everywhere (λ d k. Narrow k (chosen F d k))
 
   -- its inputs are the drawing's, and it has as many outputs
   abbrev pub Chosen-fits : Type 0
   Chosen-fits = Everywhere (λ d k. (chosen F d k .inputs ≡ inputsOf (d .nodes)) × (length (chosen F d k .outputs) ≡ length (d .outputs)))
+
+  -- no lawful cover of the drawing whose cells have at most k leaves is earlier, at any output
+  abbrev pub Chosen-earliest : Type 0
+  Chosen-earliest = Everywhere (λ d k. (n : Netlist) → Lawfully-covers d n → Narrow k n → (o : ℕ) → In o (d .outputs) → F .notLater (coverArrival F (chosen F d k) (nodeOf o)) (coverArrival F n (nodeOf o)) ≡ true)
 
   -- no rival is earlier, at any output
   abbrev pub Chosen-first : Type 0

@@ -1,4 +1,4 @@
-use Rattle.covering.proofs.ChosenCover.{rivals-cover, chosen-covers, chosen-agrees, chosen-narrow, chosen-fits, chosen-first, chosen-best}
+use Rattle.covering.proofs.ChosenCover.{rivals-cover, chosen-covers, chosen-agrees, chosen-narrow, chosen-fits, chosen-earliest, chosen-first, chosen-best}
 use Rattle.covering.proofs.chosen_stands.Needs as need
 
 pub returns : need.returns
@@ -11,6 +11,7 @@ returns g c =
       narrow = chosen-narrow F L;
       fits = chosen-fits F;
       rivals = rivals-cover;
+      earliest = chosen-earliest F L;
       first = chosen-first F L;
       best = chosen-best F L;
     }

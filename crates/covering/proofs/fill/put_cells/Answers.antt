@@ -34,7 +34,7 @@ push-gate-requires c κs =
     record {
       room = subst (λ (n : Netlist). length (n .cells) < mostCells) e (omega (arith, piece-room nodes [] mostLeaves picked given right few R v here (c .pre .few), c .pre .few));
       right = right;
-      there = c .loop-v-test .taken;
+      there = omega arith;
       positive = piece-positive nodes [] mostLeaves picked given right few R v here;
       above = subst (λ (n : Netlist). below v (rootsOf n) ≡ true) e (piece-above nodes [] mostLeaves picked given right few R v here);
       fresh = subst (λ (n : Netlist). mem v (n .inputs) ≡ false) e (piece-fresh nodes [] mostLeaves picked given right few R v here);
@@ -42,9 +42,6 @@ push-gate-requires c κs =
       rising = subst (λ (s : List ℕ). rises 0 s ≡ true) ls (piece-rising nodes [] mostLeaves picked given right few R v here);
       known = subst (λ (n : Netlist). known (namesOf n) (c .leaves .result .now) ≡ true) e (subst (λ (s : List ℕ). known (namesOf (coverUpTo nodes picked given v)) s ≡ true) ls (piece-known nodes [] mostLeaves picked given right few R v here));
     }
-
-pub loop-v-holds : need.loop-v-holds
-loop-v-holds c = c .pre .bare
 
 pub loop-v-again : need.loop-v-again
 loop-v-again c =

@@ -29,9 +29,6 @@ push-input-requires c κs =
       above = subst (λ (n : Netlist). below v (n .inputs) ≡ true) e (input-above nodes v l);
     }
 
-pub loop-number-holds : need.loop-number-holds
-loop-number-holds c = c .pre .bare
-
 pub loop-number-again : need.loop-number-again
 loop-number-again c =
     let nodes = c .args .nodes .now in
