@@ -7,9 +7,10 @@ use drawing::refusal::Refusal;
 use family::levels::Levels;
 use family::levels::LevelsFamily;
 use fitter::job::Job;
-ghost use Prim.Native.Nat.{_<_};
+ghost use Prim.Native.Nat.{_≤_};
 ghost use Rattle.cells.specs.Netlists.{netlistOf};
 ghost use Rattle.flow.specs.Listing.{cellList, Listed, Printed};
+ghost use Rattle.std.specs.Vec.{made};
 ghost use lib.ListN.{length};
 
 /// The most bytes that a text may have.
@@ -21,7 +22,8 @@ const WIDTH: u8 = 4;
 /// Writes all sections of the cell list of a cover, and answers their length. Refused for a buffer that is shorter, which then
 /// holds the sections before the one that did not fit.
 pub fn write_sections(cover: &Cover, out: &mut [u8]) -> Result<usize, Refusal>
-    ensures { λ r. ⌜ Printed (cellList (netlistOf (now (cover .entry)))) (now (out .entry)) r (now (out .exit)) ⌝ }
+    ensures within { λ r. ⌜ made r (λ n. n ≤ length (now (out .exit))) ⌝ }
+    ensures printed { λ r. ⌜ Printed (cellList (netlistOf (now (cover .entry)))) (now (out .entry)) r (now (out .exit)) ⌝ }
 {
     let mut at = 0;
     for section in 0..sections(cover) {
@@ -34,7 +36,8 @@ pub fn write_sections(cover: &Cover, out: &mut [u8]) -> Result<usize, Refusal>
 /// Reads a text of at most `MOST_BYTES` bytes as a drawing, maps it by levels with cells of four leaves, and writes the cell list.
 /// The answer is its length.
 pub fn cell_list(text: &[u8], out: &mut [u8]) -> Result<usize, Refusal>
-    ensures { λ r. ⌜ Listed (now (text .entry)) (now (out .entry)) r (now (out .exit)) ⌝ }
+    ensures within { λ r. ⌜ made r (λ n. n ≤ length (now (out .exit))) ⌝ }
+    ensures listed { λ r. ⌜ Listed (now (text .entry)) (now (out .entry)) r (now (out .exit)) ⌝ }
 {
     if text.len() > MOST_BYTES {
         return Err(Refusal::TooShort);

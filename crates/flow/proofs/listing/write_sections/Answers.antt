@@ -7,7 +7,7 @@ use lib.ListN.{length, drop, take, length-append, length-drop}
 use Rattle.std.specs.declared.result.Result.the-variants.{Ok, Err}
 use Rattle.std.proofs.shelf.Parts.{between-to-end}
 use Rattle.std.proofs.shelf.Lists.{append-nil}
-use Rattle.std.proofs.shelf.Results.{err-from-errBy}
+use Rattle.std.proofs.shelf.Results.{err-from-errBy, made-from-err}
 use Rattle.blif.specs.Text.{texts}
 use Rattle.blif.specs.Sections.{sectionAnswer, sectionWrites, sectionCount, sectionText}
 use Rattle.cells.specs.Netlists.{netlistOf}
@@ -37,7 +37,12 @@ loop-section-again c =
     written-more (texts n) (l .section) inside (l .at) (c .args .out .now) (l .out) _ (c .write-section .last .out) (c .in-Continue-at .field-0) (l .inv) room (put-end (l .at) (l .out) (c .write-section .last .out) room) (s .1) (s .0)
 
 pub returns : need.returns
-returns c = list-done _ (c .loop-section .section) (c .loop-section .at) (c .args .out .now) (c .loop-section .out) (omega (arith, c .sections-section-end .ensures .count)) (c .loop-section .inv)
+returns c =
+    let l = c .loop-section in
+    record
+      { within = written-room _ (l .section) (l .at) (c .args .out .now) (l .out) (l .inv)
+      ; printed = list-done _ (l .section) (l .at) (c .args .out .now) (l .out) (omega (arith, c .sections-section-end .ensures .count)) (l .inv)
+      }
 
 pub returns-in-Break-at : need.returns-in-Break-at
 returns-in-Break-at c =
@@ -47,7 +52,8 @@ returns-in-Break-at c =
     let rest : take (length (l .out) - l .at) (drop (l .at) (l .out)) ≡ drop (l .at) (l .out) = between-to-end (l .out) (l .at) (length (l .out)) (omega arith) in
     let s = section-short n (l .section) (drop (l .at) (l .out)) inside (c .in-Break-at .field-0 .0) (c .in-Break-at .ensures tt .answer ∙ ap (λ (z : List ℕ). sectionAnswer n (l .section) z) rest) in
     let p = err-from-errBy (c .from-residual .result) (c .from-residual .ensures .1) in
-    printed-short (cellList n) (c .args .out .now) (c .from-residual .result) _ (p .0) (p .1) (p .2 ∙ s .0) (list-short n (l .section) (l .at) (c .args .out .now) (l .out) inside (l .inv) (l .kept .out) (s .1))
+    let r = c .from-residual .result in
+    record { within = made-from-err r _ (c .from-residual .ensures .0); printed = printed-short (cellList n) (c .args .out .now) (c .from-residual .result) _ (p .0) (p .1) (p .2 ∙ s .0) (list-short n (l .section) (l .at) (c .args .out .now) (l .out) inside (l .inv) (l .kept .out) (s .1)) }
 
 pub add-at : need.add-at
 add-at c =
