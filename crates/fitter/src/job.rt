@@ -1,6 +1,7 @@
 //! A job.
 
 pub mod calls;
+pub mod changes;
 mod making;
 pub mod map;
 pub mod reading;

@@ -42,14 +42,14 @@ module _ (ts : List (List ℕ)) (k : ℕ) (inside : k < length ts) where
       let js = joined (λ z. z) (take k ts) in
       let front : take at new ≡ js = ap (take at) (w .bytes) ∙ take-at js (drop at old) at (sym (w .long)) in
       let back : drop at new ≡ drop at old = ap (drop at) (w .bytes) ∙ drop-at js (drop at old) at (sym (w .long)) in
-      record
-        { long = omega (arith, e, w .long, length-append js t, ap length joined-next)
-        ; bytes =
+      record {
+        long = omega (arith, e, w .long, length-append js t, ap length joined-next);
+        bytes =
             n ∙ ap (λ z. z ++ part) front ∙ ap (λ z. js ++ z) (p ∙ ap (λ z. t ++ drop (length t) z) back)
             ∙ sym (append-assoc js t (drop (length t) (drop at old)))
             ∙ ap (λ z. z ++ drop (length t) (drop at old)) (sym joined-next)
-            ∙ ap (λ z. joined (λ q. q) (take (k + 1) ts) ++ z) (ap (λ z. drop z (drop at old)) (sym e) ∙ drop-drop m at old)
-        }
+            ∙ ap (λ z. joined (λ q. q) (take (k + 1) ts) ++ z) (ap (λ z. drop z (drop at old)) (sym e) ∙ drop-drop m at old);
+      }
 
 pub written-none : (ts : List (List ℕ)) (old : List ℕ) → Written ts 0 0 old old
 written-none ts old = record { long = refl; bytes = refl }

@@ -39,10 +39,10 @@ loop-section-again c =
 pub returns : need.returns
 returns c =
     let l = c .loop-section in
-    record
-      { within = written-room _ (l .section) (l .at) (c .args .out .now) (l .out) (l .inv)
-      ; printed = list-done _ (l .section) (l .at) (c .args .out .now) (l .out) (omega (arith, c .sections-section-end .ensures .count)) (l .inv)
-      }
+    record {
+      within = written-room _ (l .section) (l .at) (c .args .out .now) (l .out) (l .inv);
+      printed = list-done _ (l .section) (l .at) (c .args .out .now) (l .out) (omega (arith, c .sections-section-end .ensures .count)) (l .inv);
+    }
 
 pub returns-in-Break-at : need.returns-in-Break-at
 returns-in-Break-at c =
@@ -66,5 +66,5 @@ add-at c =
     let buffer = c .in-Continue-at .ensures tt .buffer ∙ ap (λ (z : List ℕ). sectionWrites n (l .section) z) rest in
     let s = section-ok n (l .section) (drop (l .at) (l .out)) inside (c .in-Continue-at .field-0) (c .write-section .last .out) answer buffer in
     let h : l .at + c .in-Continue-at .field-0 ≤ length (l .out) =
-          omega (arith, s .0, ap length (s .1), length-append (sectionText n (l .section)) (drop (length (sectionText n (l .section))) (drop (l .at) (l .out))), ap length rest, length-drop (l .at) (l .out), c .write-section .kept .out) in
+    omega (arith, s .0, ap length (s .1), length-append (sectionText n (l .section)) (drop (length (sectionText n (l .section))) (drop (l .at) (l .out))), ap length rest, length-drop (l .at) (l .out), c .write-section .kept .out) in
     search needs
