@@ -1,4 +1,4 @@
-//! Texts and what the reader answers, worked out by hand and by `tools/aiger_oracle.py`, which reads this table.
+//! Texts with what is owed for each: the expected numbers, bytes and lines were worked out by tools/aiger_oracle.py, a separate reader written from the rules.
 
 use aiger::read;
 use aiger::write;
