@@ -1,6 +1,5 @@
--- The definitions compute.
-use mathlib.Core.Path.{_≡_, refl}
-use lib.ListN.{length}
+-- The definitions compute: a `refl` for each entry.
+use mathlib.Core.Path.{refl}
 use Rattle.drawing.specs.Reach.{reach}
 use Rattle.cuts.specs.Cuts.{closes, closesFanins, cut, least, leastCuts}
 use Rattle.choice.specs.Choice.{best, takenCut, cells}
@@ -8,11 +7,8 @@ use Rattle.cells.specs.Truth.{tableOf}
 use Rattle.covering.specs.Chosen.{chosen}
 use Rattle.covering.specs.Times.{coverArrival}
 use Rattle.aiger.specs.Reads.{scan, readLines, readWord, read}
-use Rattle.figures.specs.Figures.{Figures-hold, figures}
+use Rattle.figures.specs.Figures.{Figures-hold}
 
 pub figures-hold : Figures-hold
 unfolding reach closes closesFanins cut least leastCuts best takenCut cells tableOf chosen coverArrival scan readLines readWord read
-figures-hold = refl
-
-pub entries : length figures ≡ 15
-entries = refl
+figures-hold = (refl, (refl, (refl, (refl, (refl, (refl, (refl, (refl, (refl, (refl, (refl, (refl, (refl, (refl, (refl, tt)))))))))))))))

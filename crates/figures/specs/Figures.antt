@@ -1,7 +1,7 @@
 -- The worked figures, and that the definitions give them.
 use Prim.Native.Nat.{ℕ}
 use mathlib.Core.Path.{_≡_}
-use mathlib.Core.List.{List, [], _∷_, _++_, map}
+use mathlib.Core.List.{List, [], _∷_, _++_}
 use lib.Chars.{codes}
 use Rattle.drawing.specs.declared.node.Node.{Node}
 use Rattle.drawing.specs.declared.node.Node.the-variants.{Constant, Input, Gate}
@@ -66,6 +66,10 @@ figures =
     ∷ entry retiedBelow (cellsAre ((5, 1 ∷ 2 ∷ 3 ∷ [], 208) ∷ []) ∷ listsMade 2 ∷ [])
     ∷ []
 
--- the definitions give what every entry says
+-- the definitions give what each entry says
+abbrev pub EachHolds : List Entry → Type 0
+EachHolds [] = Unit {0}
+EachHolds (e ∷ es) = (worked e ≡ e .says) × EachHolds es
+
 abbrev pub Figures-hold : Type 0
-Figures-hold = map worked figures ≡ map (λ e. e .says) figures
+Figures-hold = EachHolds figures
