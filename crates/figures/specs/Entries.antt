@@ -1,4 +1,4 @@
--- What an entry says of the drawing that some calls make and of a map by that job, and what the definitions give for it.
+-- What an entry says of a job after some calls, and what the definitions give for it.
 use Prim.Native.Nat.{ℕ}
 use mathlib.Core.Bool.{Bool}
 use mathlib.Core.List.{List, map, reverse}
@@ -16,7 +16,7 @@ use Rattle.fitter.specs.Book.{Book, size}
 use Rattle.fitter.specs.Calls.{Call, bookOfCalls, keptOfCalls}
 use Rattle.fitter.specs.Making.{madeBelow}
 
--- something said of a job; the family is Levels where no other is named
+-- something said of a job; the family has the job's width, and is Levels where no other is named
 pub data Figure : Type 0 where
   -- the drawing
   drawingIs : Drawing → Figure
@@ -31,7 +31,7 @@ pub data Figure : Type 0 where
   bestPins : ℕ → ℕ × ℕ → Figure
   coverLevels : ℕ → ℕ → Figure
   coverPins : ℕ → ℕ × ℕ → Figure
-  -- how many lists a map makes
+  -- how many lists the next map makes
   listsMade : ℕ → Figure
 
 -- an entry: calls, the first of them first, and what is said of the job after them
@@ -58,7 +58,7 @@ module _ {A : Type 0} (F : Delay A) (b : Book) where
   abbrev pub coverAt : ℕ → A
   coverAt v = coverArrival F cover v
 
--- what the definitions give in place of what is said, by the book and the kept lists
+-- what the definitions give in place of what is said of the same node, by the book and the kept lists
 abbrev pub given : Book → (ℕ → Bool) → Figure → Figure
 given b held (drawingIs d) = drawingIs (b .drawing)
 given b held (listOf v sets) = listOf v (leastCuts (b .drawing .nodes) (b .width) v)

@@ -19,15 +19,15 @@ gate left right = addGate (record { left = left; right = right })
 abbrev pub retie : ℕ → ℕ → ℕ → Call
 retie v left right = retieGate v (record { left = left; right = right })
 
--- the calls of 6
+-- the calls of figure 6
 abbrev pub doubled : List Call
 doubled = addInput ∷ addInput ∷ gate 2 4 ∷ gate 6 6 ∷ addOutput 8 ∷ []
 
--- the calls of 7, at a width
+-- the calls of figure 7, at a width
 abbrev pub choosing : ℕ → List Call
 choosing k = setWidth k ∷ addInput ∷ addInput ∷ addInput ∷ gate 2 4 ∷ gate 3 6 ∷ gate 9 11 ∷ addOutput 13 ∷ []
 
--- the calls of 8: a text is loaded; it is mapped, by a family of width 3 and a table of six entries, and gate 5 tied anew;
+-- the calls of figure 8: a text is loaded; it is mapped, by a family of width 3 and a table of six entries, and gate 5 tied anew;
 -- it is mapped again, and gate 4 tied anew
 abbrev pub reading : List Call
 reading = setWidth 3 ∷ loadText (codes "aag 5 3 0 1 2\n2\n4\n6\n11\n8 2 4\n10 8 6\n") ∷ []
@@ -38,7 +38,8 @@ retied = reading ++ mapBy 3 6 ∷ retie 5 9 6 ∷ []
 abbrev pub retiedBelow : List Call
 retiedBelow = retied ++ mapBy 3 6 ∷ retie 4 2 5 ∷ []
 
--- The entries. The width is 4 where no call sets it. The cuts of a list stand in the order in which the definition gives them.
+-- The entries, by figure. The width is 4 where no call sets it. A list is a set of cuts; here they stand in the order in which the
+-- definition gives them.
 abbrev pub figures : List Entry
 figures =
     -- 1. no outputs
