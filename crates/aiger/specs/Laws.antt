@@ -32,6 +32,7 @@ pub record Placed (t : List ℕ) (f : Fault) : Type 0 where
   pub within : f .byte ≤ length t
   pub line : ends (take (f .byte) t) ≡ f .line
 
+-- every fault of a text is placed so
 abbrev pub Places-faults : Type 0
 Places-faults = (t : List ℕ) (f : Fault) → read t ≡ Err f → Placed t f
 
@@ -50,15 +51,18 @@ Ends-early =
 
 -- The definitions at texts that are written out.
 
+-- a drawing of three inputs and two gates
 abbrev pub sample : Drawing
 sample =
     drawing
     (Constant ∷ Input ∷ Input ∷ Input ∷ Gate (record { left = 2; right = 4 }) ∷ Gate (record { left = 8; right = 6 }) ∷ [])
     (11 ∷ [])
 
+-- its text
 abbrev pub sampleText : List ℕ
 sampleText = codes "aag 5 3 0 1 2\n2\n4\n6\n11\n8 2 4\n10 8 6\n"
 
+-- what the definitions give at these texts
 pub record Examples : Type 0 where
   pub written : text sample ≡ sampleText
   pub read-back : read sampleText ≡ Ok sample

@@ -16,6 +16,7 @@ use Rattle.aiger.specs.declared.page.Page.{Page}
 abbrev pub mostBytes : ℕ
 mostBytes = 4376
 
+-- the bytes of a page that count
 abbrev pub written : Page → List ℕ
 written p = take (p .len) (p .bytes)
 
@@ -30,6 +31,7 @@ Short Constant = Unit {0}
 Short Input = Unit {0}
 Short (Gate p) = (p .left < 1000) × (p .right < 1000)
 
+-- every gate of the list has literals of at most three digits
 abbrev pub ShortGates : List Node → Type 0
 ShortGates nodes = (k : ℕ) → k < length nodes → Short (at nodes k)
 

@@ -20,6 +20,7 @@ use Rattle.aiger.specs.Text.{word}
 
 -- The pattern of a line.
 
+-- a byte from 0 to 9
 abbrev pub isDigit : ℕ → Bool
 isDigit b = leb 48 b && ltb b 58
 
@@ -116,9 +117,11 @@ add End sh ns = sh
 
 -- The text.
 
+-- what is owed for a text: its drawing, or its fault
 abbrev pub Outcome : Type 0
 Outcome = Result Drawing Fault
 
+-- the fault of this rule, at this byte and line
 abbrev pub fault : Rule → ℕ → ℕ → Outcome
 fault rule byte line = Err (record { rule = rule; byte = byte; line = line })
 

@@ -91,6 +91,7 @@ goOnIn Outputs r bs = rest r Outputs (scanOn (r .line) bs)
 goOnIn Gates r bs = rest r Gates (scanOn (r .line) bs)
 goOnIn End r bs = readLines [] (drafted (r .draft)) (r .line .row) (r .line .pos) bs
 
+-- what the reader owes for the bytes to come
 abbrev pub goOn : Reader → List ℕ → Outcome
 goOn r bs = goOnIn (r .part) r bs
 

@@ -49,5 +49,6 @@ heading d =
 abbrev pub word : List ℕ
 word = 97 ∷ 97 ∷ 103 ∷ 32 ∷ []
 
+-- the text of a drawing: the first word, and a line for each row
 abbrev pub text : Drawing → List ℕ
 text d = word ++ (lineOf (heading d) ++ joined lineOf (body d))

@@ -4,6 +4,7 @@ use mathlib.Core.Path.{_≡_}
 use mathlib.Core.List.{List, [], _∷_}
 use lib.ListN.{length, set}
 
+-- bytes laid over a buffer from a place on; what falls past its end is dropped
 abbrev pub over : List ℕ → ℕ → List ℕ → List ℕ
 over out p [] = out
 over out p (b ∷ bs) = over (set out p b) (suc p) bs

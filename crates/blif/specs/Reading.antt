@@ -18,6 +18,7 @@ abbrev pub split : ℕ → List ℕ → List (List ℕ)
 split s [] = [] ∷ []
 split s (b ∷ bs) = cond (eqb b s) ([] ∷ split s bs) (onto b (split s bs))
 
+-- the list is not empty
 abbrev pub someByte : List ℕ → Bool
 someByte [] = false
 someByte (b ∷ bs) = true
@@ -38,6 +39,7 @@ linesOf text = map wordsOf (pieces 10 text)
 abbrev pub front : {X : Type 0} → List X → List X
 front xs = take (length xs - 1) xs
 
+-- the last of some words
 abbrev pub last : List (List ℕ) → List ℕ
 last words = getD words (length words - 1) []
 
@@ -54,6 +56,7 @@ pub record Model : Type 0 where
   pub blocks : List Block
   pub loose : List (List (List ℕ))
 
+-- a model with no inputs, outputs or blocks
 abbrev pub noModel : Model
 noModel = record { inputs = []; outputs = []; blocks = []; loose = [] }
 
@@ -69,6 +72,7 @@ command word args m =
     (cond (same word (codes ".names")) (record { inputs = m .inputs; outputs = m .outputs; blocks = block args (m .loose) ∷ m .blocks; loose = [] })
     (record { inputs = m .inputs; outputs = m .outputs; blocks = m .blocks; loose = [] })))
 
+-- a row of values belongs to the block before it
 abbrev pub looseRow : List (List ℕ) → Model → Model
 looseRow words m = record { inputs = m .inputs; outputs = m .outputs; blocks = m .blocks; loose = words ∷ m .loose }
 
@@ -76,10 +80,12 @@ looseRow words m = record { inputs = m .inputs; outputs = m .outputs; blocks = m
 abbrev pub readLine : List (List ℕ) → Model → Model
 readLine words m = cond (eqb (getD (getD words 0 []) 0 0) 46) (command (getD words 0 []) (drop 1 words) m) (looseRow words m)
 
+-- the model of some lines, each a list of words
 abbrev pub readLines : List (List (List ℕ)) → Model
 readLines [] = noModel
 readLines (l ∷ ls) = readLine l (readLines ls)
 
+-- the model of a text
 abbrev pub readModel : List ℕ → Model
 readModel text = readLines (linesOf text)
 

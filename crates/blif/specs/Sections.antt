@@ -12,9 +12,11 @@ use Rattle.drawing.specs.declared.refusal.Refusal.the-variants.{TooShort, NoSec
 use Rattle.cells.specs.Netlist.{Netlist}
 use Rattle.blif.specs.Text.{texts}
 
+-- how many sections the cell list has
 abbrev pub sectionCount : Netlist → ℕ
 sectionCount n = length (texts n)
 
+-- the text of section i, counted from 0
 abbrev pub sectionText : Netlist → ℕ → List ℕ
 sectionText n i = getD (texts n) i []
 

@@ -27,6 +27,7 @@ name letter n = letter ∷ number n
 abbrev pub nodeName : ℕ → List ℕ
 nodeName n = name 110 n
 
+-- the name of output i
 abbrev pub outputName : ℕ → List ℕ
 outputName k = name 111 k
 
@@ -34,6 +35,7 @@ outputName k = name 111 k
 abbrev pub spaced : List (List ℕ) → List ℕ
 spaced names = joined (λ word. 32 ∷ word) names
 
+-- the names of some nodes, each behind a space
 abbrev pub nodeNames : List ℕ → List ℕ
 nodeNames nodes = spaced (map nodeName nodes)
 
@@ -62,6 +64,7 @@ onRows t m = keep (λ k. eqb (bit t k) 1) (counting 0 m)
 abbrev pub tableLines : ℕ → ℕ → List ℕ
 tableLines t n = joined (line n) (onRows t (2 ^ n))
 
+-- the section of a cell: its names, and a line for each row of leaf values that gives 1
 abbrev pub cellText : Cell → List ℕ
 cellText c =
     codes ".names" ++ nodeNames (leavesOf c) ++ (32 ∷ nodeName (c .root)) ++ codes "\n" ++ tableLines (c .table) (length (leavesOf c))

@@ -18,6 +18,7 @@ pub record Suits (nodes : List Node) (c : Cell) : Type 0 where
   pub closing : closes nodes (leavesOf c) (c .root) ≡ true
   pub table : c .table ≡ tableOf nodes (leavesOf c) (c .root)
 
+-- every cell suits
 abbrev pub AllSuit : List Node → List Cell → Type 0
 AllSuit nodes cells = (c : Cell) → In c cells → Suits nodes c
 

@@ -22,6 +22,7 @@ abbrev pub firstAbove : ℕ → List ℕ → Option ℕ
 firstAbove i [] = None
 firstAbove i (b ∷ bs) = cond (ltb 1 b) (Some i) (firstAbove (suc i) bs)
 
+-- accepted, unless a byte of the row is above 1
 abbrev pub unlessBad : Option ℕ → Result (Unit {0}) Refusal
 unlessBad None = Ok tt
 unlessBad (Some i) = Err (BadBit i)

@@ -34,6 +34,7 @@ cellsLawful inputs names (c ∷ cs) = cellLawful inputs names c && cellsLawful i
 abbrev pub outputLawful : List ℕ → ℕ → Bool
 outputLawful names l = eqb (nodeOf l) 0 || mem (plain (nodeOf l)) names
 
+-- the roots of the cells, in their order
 abbrev pub rootsOf : Netlist → List ℕ
 rootsOf n = map (λ c. c .root) (n .cells)
 

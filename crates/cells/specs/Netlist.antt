@@ -28,18 +28,23 @@ pub record Netlist : Type 0 where
   pub cells : List Cell
   pub outputs : List ℕ
 
+-- the netlist with these parts
 abbrev pub netlist : List ℕ → List Cell → List ℕ → Netlist
 netlist inputs cells outputs = record { inputs = inputs; cells = cells; outputs = outputs }
 
+-- no inputs, no cells, no outputs
 abbrev pub emptyNetlist : Netlist
 emptyNetlist = netlist [] [] []
 
+-- one input more
 abbrev pub withInput : Netlist → ℕ → Netlist
 withInput n number = netlist (n .inputs ++ number ∷ []) (n .cells) (n .outputs)
 
+-- one cell more
 abbrev pub withCell : Netlist → Cell → Netlist
 withCell n cell = netlist (n .inputs) (n .cells ++ cell ∷ []) (n .outputs)
 
+-- one output more
 abbrev pub withOutput : Netlist → ℕ → Netlist
 withOutput n l = netlist (n .inputs) (n .cells) (n .outputs ++ l ∷ [])
 

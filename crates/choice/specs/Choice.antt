@@ -50,6 +50,7 @@ module _ {A : Type 0} (F : Delay A) where
   bestStep nodes k lower Input = F .start
   bestStep nodes k lower (Gate p) = cellArrival F lower (taken lower (leastCuts nodes k (length lower)))
 
+  -- the best arrivals of all nodes
   unfoldable pub best : List Node → ℕ → List A
   best nodes k = column (bestStep nodes k) nodes
 
@@ -65,6 +66,7 @@ module _ {A : Type 0} (F : Delay A) where
   abbrev pub isCell : List Node → ℕ → List ℕ → ℕ → Bool
   isCell nodes k outs v = isGate (at nodes v) && reachOut (edgesOf nodes k) (length nodes) outs v
 
+  -- the numbers of the cells, rising
   unfoldable pub cells : List Node → ℕ → List ℕ → List ℕ
   cells nodes k outs = keep (isCell nodes k outs) (counting 0 (length nodes))
 
@@ -80,6 +82,7 @@ module _ {A : Type 0} (F : Delay A) where
   abbrev pub cutBy : List A → List (List ℕ) → Bool → List ℕ
   cutBy table sets here = let s = taken table sets in cond here s []
 
+  -- the arrival of a node by the cut that it takes, and the start where it is no needed gate
   abbrev pub arrivalBy : List A → List (List ℕ) → Bool → A
   arrivalBy table sets here = let x = cellArrival F table (taken table sets) in cond here x (F .start)
 

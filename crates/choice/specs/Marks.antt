@@ -21,5 +21,6 @@ Marks edges size outs marks = (v : ℕ) → getD marks v false ≡ reachOut edge
 abbrev pub leavesAt : Node → List ℕ → List ℕ
 leavesAt node s = cond (isGate node) s []
 
+-- from a gate to the leaves of the cut that stands at its number
 abbrev pub edgesBy : List Node → List (List ℕ) → ℕ → List ℕ
 edgesBy nodes sets v = leavesAt (at nodes v) (getD sets v [])

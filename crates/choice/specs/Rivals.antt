@@ -22,6 +22,7 @@ module _ {A : Type 0} (F : Delay A) where
   rivalStep given lower Input = F .start
   rivalStep given lower (Gate p) = cellArrival F lower (given (length lower))
 
+  -- the arrivals of all nodes in a rival
   unfoldable pub arrivals : List Node → (ℕ → List ℕ) → List A
   arrivals nodes given = column (rivalStep given) nodes
 

@@ -8,6 +8,7 @@ use Rattle.drawing.specs.Sets.{sub, keep, some, every}
 abbrev pub add : List (List ℕ) → List ℕ → List (List ℕ)
 add kept c = cond (some (λ m. sub m c) kept) kept (keep (λ m. not (sub c m)) kept ++ c ∷ [])
 
+-- what is kept once all sets were added, one after the other
 abbrev pub survivors : List (List ℕ) → List (List ℕ) → List (List ℕ)
 survivors kept [] = kept
 survivors kept (c ∷ cs) = survivors (add kept c) cs

@@ -17,6 +17,7 @@ abbrev pub closing : List ℕ → List Bool → Node → Bool
 closing s lower node =
     eqb (length lower) 0 || mem (length lower) s || (isGate node && every (λ f. getD lower f false) (fanins node))
 
+-- the set closes node n
 unfoldable pub closes : List Node → List ℕ → ℕ → Bool
 closes nodes s n = getD (column (closing s) nodes) n false
 
@@ -42,9 +43,11 @@ ways own f Constant = [] ∷ []
 ways own f Input = (f ∷ []) ∷ []
 ways own f (Gate p) = (f ∷ []) ∷ own
 
+-- the choices at a node: no leaves for node 0, the node itself for an input, the node itself or a cut of its list for a gate
 unfoldable pub choices : List Node → ℕ → ℕ → List (List ℕ)
 choices nodes k f = ways (leastCuts nodes k f) f (at nodes f)
 
+-- each of the first sets joined with each of the second
 abbrev pub unions : List (List ℕ) → List (List ℕ) → List (List ℕ)
 unions [] bs = []
 unions (a ∷ rest) bs = map (union a) bs ++ unions rest bs
@@ -57,6 +60,7 @@ minimal sets = keep (λ s. not (some (λ t. sub t s && not (same t s)) sets)) se
 abbrev pub joins : ℕ → List (List ℕ) → List (List ℕ) → List (List ℕ)
 joins k lefts rights = keep (λ s. leb (length s) k) (unions lefts rights)
 
+-- the joins of the choices at two nodes, with at most k leaves
 unfoldable pub joined : List Node → ℕ → ℕ → ℕ → List (List ℕ)
 joined nodes k f g = joins k (choices nodes k f) (choices nodes k g)
 

@@ -8,5 +8,6 @@ use Rattle.cuts.specs.declared.cut.Cut.{Cut}
 abbrev pub leavesOf : Cut → List ℕ
 leavesOf c = take (c .len) (c .leaves)
 
+-- the sets of some stored cuts
 abbrev pub setsOf : List Cut → List (List ℕ)
 setsOf rows = map leavesOf rows

@@ -21,6 +21,7 @@ Lists nodes k v rows = Alike (setsOf rows) (leastCuts nodes k v) × (length rows
 abbrev pub leftFanin : List Node → ℕ → ℕ
 leftFanin nodes v = getD (fanins (at nodes v)) 0 0
 
+-- the fanin of a gate's right literal
 abbrev pub rightFanin : List Node → ℕ → ℕ
 rightFanin nodes v = getD (fanins (at nodes v)) 1 0
 

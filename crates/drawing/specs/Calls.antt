@@ -17,6 +17,7 @@ use Rattle.drawing.specs.Drawing.{Drawing, drawing, mostNodes, mostOutputs, na
 abbrev pub inputAnswer : Drawing → Result ℕ Refusal
 inputAnswer d = cond (ltb (length (d .nodes)) mostNodes) (Ok (length (d .nodes))) (Err NodesFull)
 
+-- the drawing with one input more, or as it was
 abbrev pub afterInput : Drawing → Drawing
 afterInput d = cond (isOk (inputAnswer d)) (drawing (d .nodes ++ Input ∷ []) (d .outputs)) d
 
@@ -27,6 +28,7 @@ gateAnswer d p =
     (cond (names (d .nodes) (p .left) && names (d .nodes) (p .right)) (Ok (length (d .nodes))) (Err BadLiteral))
     (Err NodesFull)
 
+-- the drawing with one gate more, or as it was
 abbrev pub afterGate : Drawing → Pair → Drawing
 afterGate d p = cond (isOk (gateAnswer d p)) (drawing (d .nodes ++ Gate p ∷ []) (d .outputs)) d
 
@@ -36,6 +38,7 @@ outputAnswer d l =
     cond (ltb (length (d .outputs)) mostOutputs) (cond (names (d .nodes) l) (Ok (length (d .outputs))) (Err BadLiteral))
     (Err OutputsFull)
 
+-- the drawing with one output more, or as it was
 abbrev pub afterOutput : Drawing → ℕ → Drawing
 afterOutput d l = cond (isOk (outputAnswer d l)) (drawing (d .nodes) (d .outputs ++ l ∷ [])) d
 
@@ -45,6 +48,7 @@ retieAnswer d g p =
     cond (isGate (at (d .nodes) g)) (cond (ltb (nodeOf (p .left)) g && ltb (nodeOf (p .right)) g) (Ok tt) (Err BadLiteral))
     (Err NotAGate)
 
+-- the drawing with the gate tied anew, or as it was
 abbrev pub afterRetie : Drawing → ℕ → Pair → Drawing
 afterRetie d g p = cond (isOk (retieAnswer d g p)) (drawing (set (d .nodes) g (Gate p)) (d .outputs)) d
 

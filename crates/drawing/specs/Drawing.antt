@@ -14,6 +14,7 @@ pub record Drawing : Type 0 where
   pub nodes : List Node
   pub outputs : List ℕ
 
+-- the drawing with these nodes and outputs
 abbrev pub drawing : List Node → List ℕ → Drawing
 drawing nodes outputs = record { nodes = nodes; outputs = outputs }
 
@@ -37,16 +38,19 @@ nodeOf l = l / 2
 abbrev pub at : List Node → ℕ → Node
 at nodes v = getD nodes v Constant
 
+-- the node is the constant
 abbrev pub isConstant : Node → Bool
 isConstant Constant = true
 isConstant Input = false
 isConstant (Gate p) = false
 
+-- the node is an input
 abbrev pub isInput : Node → Bool
 isInput Constant = false
 isInput Input = true
 isInput (Gate p) = false
 
+-- the node is a gate
 abbrev pub isGate : Node → Bool
 isGate Constant = false
 isGate Input = false

@@ -14,6 +14,7 @@ use Rattle.drawing.specs.Drawing.{at, nodeOf, isGate, fanins}
 abbrev pub reaching : (ℕ → List ℕ) → ℕ → List Bool → ℕ → Bool
 reaching edges u lower v = some (λ f. eqb f u || getD lower f false) (edges v)
 
+-- node u is reached from node v, in a drawing of this size
 unfoldable pub reach : (ℕ → List ℕ) → ℕ → ℕ → ℕ → Bool
 reach edges size u v = getD (column (reaching edges u) (counting 0 size)) v false
 

@@ -35,6 +35,7 @@ inputsFrom i (Constant ∷ ns) = inputsFrom (suc i) ns
 inputsFrom i (Input ∷ ns) = i ∷ inputsFrom (suc i) ns
 inputsFrom i (Gate p ∷ ns) = inputsFrom (suc i) ns
 
+-- the numbers of a drawing's inputs, rising
 abbrev pub inputsOf : List Node → List ℕ
 inputsOf nodes = inputsFrom 0 nodes
 

@@ -35,5 +35,6 @@ pinsNotLater r s = ltb (r .0) (s .0) || (eqb (r .0) (s .0) && leb (r .1) (s .1))
 abbrev pub pinsResult : ℕ × ℕ → ℕ → ℕ × ℕ
 pinsResult r n = cond (ltb (r .0) most) (r .0 + 1, min (r .1 + n) most) (most, most)
 
+-- pairs of levels and pins: a cell adds one level and a pin for each leaf
 abbrev pub pins : ℕ → Delay (ℕ × ℕ)
 pins w = record { width = w; start = (0, 0); notLater = pinsNotLater; result = pinsResult }

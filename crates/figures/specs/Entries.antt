@@ -39,6 +39,7 @@ pub record Entry : Type 0 where
   pub calls : List Call
   pub says : List Figure
 
+-- the entry with these calls and figures
 abbrev pub entry : List Call → List Figure → Entry
 entry calls says = record { calls = calls; says = says }
 
@@ -55,6 +56,7 @@ module _ {A : Type 0} (F : Delay A) (b : Book) where
   abbrev pub bestAt : ℕ → A
   bestAt v = getD (best F (b .drawing .nodes) (b .width)) v (F .start)
 
+  -- the arrival of a node in the chosen cover
   abbrev pub coverAt : ℕ → A
   coverAt v = coverArrival F cover v
 

@@ -13,9 +13,11 @@ use Rattle.figures.specs.Entries.{Entry, entry, worked, drawingIs, listOf, cut
 abbrev pub from : ℕ → ℕ → Node
 from left right = Gate (record { left = left; right = right })
 
+-- the call that adds a gate from two literals
 abbrev pub gate : ℕ → ℕ → Call
 gate left right = addGate (record { left = left; right = right })
 
+-- the call that ties a gate anew
 abbrev pub retie : ℕ → ℕ → ℕ → Call
 retie v left right = retieGate v (record { left = left; right = right })
 
@@ -27,14 +29,15 @@ doubled = addInput ∷ addInput ∷ gate 2 4 ∷ gate 6 6 ∷ addOutput 8 ∷ []
 abbrev pub choosing : ℕ → List Call
 choosing k = setWidth k ∷ addInput ∷ addInput ∷ addInput ∷ gate 2 4 ∷ gate 3 6 ∷ gate 9 11 ∷ addOutput 13 ∷ []
 
--- the calls of figure 8: a text is loaded; it is mapped, by a family of width 3 and a table of six entries, and gate 5 tied anew;
--- it is mapped again, and gate 4 tied anew
+-- the calls of figure 8: a width and a text
 abbrev pub reading : List Call
 reading = setWidth 3 ∷ loadText (codes "aag 5 3 0 1 2\n2\n4\n6\n11\n8 2 4\n10 8 6\n") ∷ []
 
+-- then a map, by a family of width 3 and a table of six entries, and gate 5 tied anew
 abbrev pub retied : List Call
 retied = reading ++ mapBy 3 6 ∷ retie 5 9 6 ∷ []
 
+-- then another map, and gate 4 tied anew
 abbrev pub retiedBelow : List Call
 retiedBelow = retied ++ mapBy 3 6 ∷ retie 4 2 5 ∷ []
 
@@ -72,5 +75,6 @@ abbrev pub EachHolds : List Entry → Type 0
 EachHolds [] = Unit {0}
 EachHolds (e ∷ es) = (worked e ≡ e .says) × EachHolds es
 
+-- the definitions give every entry
 abbrev pub Figures-hold : Type 0
 Figures-hold = EachHolds figures

@@ -21,6 +21,7 @@ pub record Book : Type 0 where
   pub drawing : Drawing
   pub width : ℕ
 
+-- the book with this drawing and width
 abbrev pub book : Drawing → ℕ → Book
 book d k = record { drawing = d; width = k }
 
@@ -62,5 +63,6 @@ abbrev pub loaded : Result Drawing Fault → Result (Unit {0}) Refusal
 loaded (Ok d) = Ok tt
 loaded (Err f) = Err (Text f)
 
+-- what load answers to a text
 abbrev pub loadAnswer : List ℕ → Result (Unit {0}) Refusal
 loadAnswer t = loaded (read t)

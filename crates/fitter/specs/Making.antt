@@ -40,19 +40,21 @@ Making v i (Ok new) j =
     (bookOf j ≡ bookOf i) × ((u : ℕ) → isKept j u ≡ (isKept i u || eqb u v)) × (new ≡ not (isKept i v))
 Making v i (Err e) j = (j ≡ i) × (e ≡ Crowded v) × (tooMany (bookOf i) v ≡ true)
 
--- the lists of all needed gates are at hand, and so many were made; or the lowest crowded gate is named, and those below it are at hand
+-- the lists of all needed gates are at hand, and so many were made
 pub record Ready (i : Job) (n : ℕ) (j : Job) : Type 0 where
   pub same : bookOf j ≡ bookOf i
   pub kept : (u : ℕ) → isKept j u ≡ keptBelow (bookOf i) (isKept i) (size (bookOf i)) u
   pub made : n ≡ madeBelow (bookOf i) (isKept i) (size (bookOf i))
   pub fits : (u : ℕ) → crowdedAt (bookOf i) u ≡ false
 
+-- the lowest crowded gate g is named, and the needed gates below it are kept
 pub record Stopped (i : Job) (g : ℕ) (j : Job) : Type 0 where
   pub same : bookOf j ≡ bookOf i
   pub kept : (u : ℕ) → isKept j u ≡ keptBelow (bookOf i) (isKept i) g u
   pub crowd : crowdedAt (bookOf i) g ≡ true
   pub lowest : (u : ℕ) → u < g → crowdedAt (bookOf i) u ≡ false
 
+-- going through all needed gates: ready, or stopped at a crowded gate
 abbrev pub MakingAll : Job → Result ℕ Refusal → Job → Type 0
 MakingAll i (Ok n) j = Ready i n j
 MakingAll i (Err e) j = (g : ℕ) × (e ≡ Crowded g) × Stopped i g j
