@@ -159,8 +159,3 @@ cover-outputs n h =
     (λ o i. lt-ltb (nodeOf o) mostNodes
     (⊎-elim (λ z. omega (arith, eqb-true (nodeOf o) 0 z)) (λ z. named-below n (nodeOf o) h z)
     (or-cases (eqb (nodeOf o) 0) (mem (plain (nodeOf o)) (namesOf n)) (every-in (outputLawful (namesOf n)) o (n .outputs) (cover-says n h .outputs-lawful) i))))
-
--- the cells stay suited as one is added
-pub suit-push : (nodes : List Node) (cs : List Cell) (c : Cell) → AllSuit nodes cs → Suits nodes c → AllSuit nodes (cs ++ c ∷ [])
-suit-push nodes cs c a s d i =
-    ⊎-elim (λ j. a d j) (λ j. ⊎-elim (λ (e : c ≡ d). subst (Suits nodes) e s) (λ k. elim k [ ]) j) (in-append d cs (c ∷ []) i)

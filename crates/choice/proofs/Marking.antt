@@ -140,10 +140,6 @@ module _ (nodes : List Node) (outs : List ℕ) (law : lawful (drawing nodes outs
   pub outputs-within : (n : ℕ) → length nodes ≤ n → below n (map nodeOf outs) ≡ true
   outputs-within n l = every-map (λ u. ltb u n) nodeOf outs ∙ in-every (λ o. ltb (nodeOf o) n) outs (λ o i. lt-ltb _ n (omega (arith, lawful-says nodes outs law .outputs-named o i)))
 
-  -- a gate is needed if it is marked
-  pub marked-needed : (marks : List Bool) → Marks (λ w. fanins (at nodes w)) (length nodes) outs marks → (v : ℕ) → needed nodes outs v ≡ (isGate (at nodes v) && getD marks v false)
-  marked-needed marks m v = ap (λ b. isGate (at nodes v) && b) (sym (m v))
-
 -- the leaves of the cut that stands at u
 pub leaves-here : {X : Type 0} (f : X → List ℕ) (nodes : List Node) (xs : List X) (u : ℕ) (x : X) → u < length xs → x ≡ getD xs u x → leavesAt (at nodes u) (f x) ≡ edgesBy nodes (map f xs) u
 leaves-here f nodes xs u x l e = ap (leavesAt (at nodes u)) (ap f e ∙ sym (getD-map f xs u x [] l))

@@ -146,9 +146,6 @@ constant-zero nodes f d l h =
     let e = beq-is _ _ (and-parts _ _ (sound-at nodes f d l) .0) in
     eqb-true f 0 (sym e ∙ h)
 
-pub zero-constant : (nodes : List Node) → sound nodes ≡ true → 0 < length nodes → isConstant (at nodes 0) ≡ true
-zero-constant nodes d l = beq-is _ _ (and-parts _ _ (sound-at nodes 0 d l) .0)
-
 zero-choice : (nodes : List Node) (f : ℕ) → sound nodes ≡ true → f < length nodes → f ≡ 0 → Choice nodes f []
 zero-choice nodes f d l e = record {
   rising = refl;

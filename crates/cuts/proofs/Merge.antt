@@ -26,9 +26,6 @@ module _ (m n x y : ℕ) (xs ys : List ℕ) (a : rises m (x ∷ xs) ≡ true) (b
   pub union-left : x < y → union (x ∷ xs) (y ∷ ys) ≡ x ∷ union xs (y ∷ ys)
   union-left l = insert-front x (union xs (y ∷ ys)) (rises-union x xs (y ∷ ys) (rises-tail m x xs a) (and-from _ _ (lt-ltb x y l) (rises-tail n y ys b)))
 
-  low : (k : ℕ) → k < x → k < y → rises k (union (x ∷ xs) (y ∷ ys)) ≡ true
-  low k p q = rises-union k (x ∷ xs) (y ∷ ys) (and-from _ _ (lt-ltb k x p) (rises-tail m x xs a)) (and-from _ _ (lt-ltb k y q) (rises-tail n y ys b))
-
   above : rises 0 (x ∷ xs) ≡ true → rises 0 (y ∷ ys) ≡ true → rises 0 (union (x ∷ xs) (y ∷ ys)) ≡ true
   above p q = rises-union 0 (x ∷ xs) (y ∷ ys) p q
 

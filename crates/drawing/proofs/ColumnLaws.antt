@@ -49,12 +49,6 @@ module _ {N X : Type 0} (step : List X → N → X) where
   pub column-push : (ns : List N) (n : N) → column step (ns ++ n ∷ []) ≡ column step ns ++ step (column step ns) n ∷ []
   column-push ns n = extend-append [] ns (n ∷ [])
 
-  pub column-stays : (ns ms : List N) (v : ℕ) (d : X) → v < length ns → getD (column step (ns ++ ms)) v d ≡ getD (column step ns) v d
-  column-stays ns ms v d l =
-      let r = extend-front (column step ns) ms in
-      let e = extend-append [] ns ms in
-      rw (e, r .1, getD-append-left (column step ns) (r .0) d v (omega (arith, length-column ns)))
-
   -- the front of a column is the column of the front
   pub column-take : (ns : List N) (v : ℕ) → v ≤ length ns → column step (take v ns) ≡ take v (column step ns)
   column-take ns v l =

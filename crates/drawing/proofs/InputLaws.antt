@@ -75,12 +75,6 @@ inputs-from-below i (Input ∷ ns) v l = and-from _ _ (lt-ltb i v (omega arith))
 pub inputs-below : (nodes : List Node) → below (length nodes) (inputsOf nodes) ≡ true
 inputs-below nodes = inputs-from-below 0 nodes (length nodes) (omega arith)
 
-pub length-inputs : (i : ℕ) (ns : List Node) → length (inputsFrom i ns) ≤ length ns
-length-inputs i [] = omega arith
-length-inputs i (Constant ∷ ns) = omega (arith, length-inputs (suc i) ns)
-length-inputs i (Gate p ∷ ns) = omega (arith, length-inputs (suc i) ns)
-length-inputs i (Input ∷ ns) = omega (arith, length-inputs (suc i) ns)
-
 inputs-from-rise : (m i : ℕ) (ns : List Node) → m < i → rises m (inputsFrom i ns) ≡ true
 inputs-from-rise m i [] l = refl
 inputs-from-rise m i (Constant ∷ ns) l = inputs-from-rise m (suc i) ns (omega arith)

@@ -23,11 +23,6 @@ gate-of Constant h = absurd (both-ways false refl h)
 gate-of Input h = absurd (both-ways false refl h)
 gate-of (Gate p) h = (p, refl)
 
-pub constant-of : (n : Node) → isConstant n ≡ true → n ≡ Constant
-constant-of Constant h = refl
-constant-of Input h = absurd (both-ways false refl h)
-constant-of (Gate p) h = absurd (both-ways false refl h)
-
 pub sound-at : (nodes : List Node) (v : ℕ) → sound nodes ≡ true → v < length nodes → soundAt v (at nodes v) ≡ true
 unfolding sound
 sound-at nodes v d l =
@@ -44,10 +39,6 @@ sound-by nodes l h = and-from _ _ (lt-ltb 0 (length nodes) l) (in-every (λ v. s
 pub sound-some : (nodes : List Node) → sound nodes ≡ true → 0 < length nodes
 unfolding sound
 sound-some nodes d = ltb-true 0 (length nodes) (and-parts _ _ d .0)
-
-pub sound-new : sound (Constant ∷ []) ≡ true
-unfolding sound
-sound-new = refl
 
 pub sound-push : (nodes : List Node) (n : Node) → sound nodes ≡ true → soundAt (length nodes) n ≡ true → sound (nodes ++ n ∷ []) ≡ true
 sound-push nodes n d h =

@@ -5,9 +5,12 @@ use cuts::cut::Cut;
 use drawing::table::Table;
 ghost use Rattle.cuts.specs.Lists.{Lists};
 ghost use Rattle.drawing.specs.Tables.{drawingOf};
+ghost use Rattle.fitter.specs.Calls.{Call, keptOfCalls};
+ghost use Rattle.fitter.specs.History.{Handled};
 ghost use Rattle.fitter.specs.Jobs.{bookOf, isKept};
 ghost use Rattle.std.specs.Options.{Cases as BySome};
 ghost use mathlib.Core.Bool.{false, true};
+ghost use mathlib.Core.List.{List};
 ghost use mathlib.Core.Path.{_≡_};
 
 impl Job {
@@ -27,7 +30,8 @@ impl Job {
 
     /// Whether the list of a gate is kept.
     pub fn is_kept(&self, gate: u8) -> bool
-        ensures { λ r. ⌜ r ≡ isKept (now (self .entry)) gate ⌝ }
+        ensures value { λ r. ⌜ r ≡ isKept (now (self .entry)) gate ⌝ }
+        ensures law { λ r. ⌜ ((h : List Call) → Handled h (now (self .entry)) → r ≡ keptOfCalls h gate) ⌝ }
     {
         self.lists.holds(gate)
     }
