@@ -1,27 +1,24 @@
 //! Numbers of a line: decimal digits, of which only 0 itself begins with 0.
 
-ghost use Prim.Native.Nat.{_≤_};
-ghost use Rattle.std.specs.Options.{Cases as BySome};
+ghost use Prim.Native.Nat.{_<_, _≤_};
+ghost use Rattle.script.specs.Reads.{Reads};
+ghost use Rattle.std.specs.Written.{decimal};
+ghost use lib.ListN.{getD, length};
+ghost use mathlib.Core.Path.{_≡_};
 
-/// The value of a digit.
-fn digit(byte: u8) -> Option<usize>
-    ensures { λ r. ⌜ BySome r (Unit {0}) (λ n. n ≤ 9) ⌝ }
-{
-    if b'0' <= byte && byte <= b'9' {
-        Some((byte - b'0') as usize)
-    } else {
-        None
-    }
-}
-
-/// The number that the digits stand for, unless it is above `most`.
+/// The number that the digits stand for.
 fn value(digits: &[u8], most: usize) -> Option<usize>
-    requires { ⌜ most ≤ 65536 ⌝ }
-    ensures { λ r. ⌜ BySome r (Unit {0}) (λ n. n ≤ most) ⌝ }
+    requires small { ⌜ most ≤ 65536 ⌝ }
+    requires some { ⌜ 0 < length (now digits) ⌝ }
+    requires plain { ⌜ (getD (now digits) 0 0 ≡ 48 → length (now digits) ≡ 1) ⌝ }
+    ensures { λ r. ⌜ Reads (λ n. n ≤ most) decimal (now (digits .entry)) r ⌝ }
 {
     let mut n = 0;
     for byte in digits {
-        n = n * 10 + digit(*byte)?;
+        if !byte.is_ascii_digit() {
+            return None;
+        }
+        n = n * 10 + (*byte - b'0') as usize;
         if n > most {
             return None;
         }
@@ -29,10 +26,10 @@ fn value(digits: &[u8], most: usize) -> Option<usize>
     Some(n)
 }
 
-/// The number, unless it is above `most`.
+/// The number of this text, unless it is above `most`.
 pub fn number(text: &[u8], most: usize) -> Option<usize>
     requires { ⌜ most ≤ 65536 ⌝ }
-    ensures { λ r. ⌜ BySome r (Unit {0}) (λ n. n ≤ most) ⌝ }
+    ensures { λ r. ⌜ Reads (λ n. n ≤ most) decimal (now (text .entry)) r ⌝ }
 {
     if text.is_empty() || text[0] == b'0' && text.len() > 1 {
         return None;
