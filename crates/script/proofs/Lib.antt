@@ -1,3 +1,4 @@
 mod Numbers
+mod Scans
 mod Splits
 mod Verbs

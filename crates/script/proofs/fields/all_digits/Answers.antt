@@ -1,6 +1,6 @@
 use mathlib.Core.Path.{refl, sym}
 use Rattle.std.specs.Text.{asciiDigit}
-use Rattle.drawing.proofs.Scans.{every-lost, every-next, every-all}
+use Rattle.script.proofs.Scans.{every-lost, every-next, every-all}
 use Rattle.script.proofs.fields.all_digits.Needs as need
 
 pub returns-then-not-is-ascii-digit : need.returns-then-not-is-ascii-digit

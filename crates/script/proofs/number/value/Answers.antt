@@ -4,7 +4,7 @@ use Prim.Native.Nat.{_+_}
 use lib.ListN.{drop}
 use Rattle.std.specs.Text.{asciiDigit}
 use Rattle.std.proofs.shelf.Lists.{at-drop-more, at-drop-all}
-use Rattle.drawing.proofs.Scans.{every-lost, every-next, every-all}
+use Rattle.script.proofs.Scans.{every-lost, every-next, every-all}
 use Rattle.script.proofs.Numbers.{readOn, no-number, too-large, read-all}
 use Rattle.script.proofs.number.value.Needs as need
 
