@@ -1,0 +1,6 @@
+//! A family of a user's own, and tests of the families.
+
+pub mod ranks;
+
+#[cfg(test)]
+mod tests;

@@ -1,0 +1,8 @@
+//! Tests of jobs: the worked figures, the refusals, and histories of calls.
+
+#[cfg(test)]
+mod compare;
+#[cfg(test)]
+mod figures;
+#[cfg(test)]
+mod refusals;
