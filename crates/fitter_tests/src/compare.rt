@@ -11,12 +11,7 @@ use family::levels::LevelsFamily;
 use fitter::job::Job;
 
 /// A job with so many inputs and these gates and outputs.
-pub fn made(
-    inputs: u8,
-    gates: &[(u16, u16)],
-    outputs: &[u16],
-    width: u8,
-) -> Result<Job, Refusal> {
+pub fn made(inputs: u8, gates: &[(u16, u16)], outputs: &[u16], width: u8) -> Result<Job, Refusal> {
     let mut job = Job::new();
     for _ in 0..inputs {
         let _ = job.input()?;

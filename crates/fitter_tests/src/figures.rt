@@ -30,12 +30,14 @@ fn one_gate(
     let mut cover = Cover::new();
     let mut arrivals = [9; 256];
     let answer = map_levels(&mut job, &mut cover, &mut arrivals)?;
-    Ok(answer == (1, 1)
-        && one_cell(&cover, gate, leaves, table)
-        && cuts_of(&job, gate) == 1
-        && takes(&job, gate, leaves)
-        && arrivals[gate as usize] == 1
-        && arrivals[0] == 0)
+    Ok(
+        answer == (1, 1)
+            && one_cell(&cover, gate, leaves, table)
+            && cuts_of(&job, gate) == 1
+            && takes(&job, gate, leaves)
+            && arrivals[gate as usize] == 1
+            && arrivals[0] == 0,
+    )
 }
 
 #[test]

@@ -5,4 +5,6 @@ mod compare;
 #[cfg(test)]
 mod figures;
 #[cfg(test)]
+mod histories;
+#[cfg(test)]
 mod refusals;

@@ -44,7 +44,13 @@ fn full_drawings() -> Result<(), Fail> {
     let twin = made(255, &[], &[0; 64], 4)?;
     check(job.input() == Err(Refusal::NodesFull))?;
     check(job.gate(Pair { left: 0, right: 0 }) == Err(Refusal::NodesFull))?;
-    check(job.gate(Pair { left: 512, right: 0 }) == Err(Refusal::NodesFull))?;
+    check(
+        job.gate(Pair {
+            left: 512,
+            right: 0,
+        })
+            == Err(Refusal::NodesFull),
+    )?;
     check(job.output(0) == Err(Refusal::OutputsFull))?;
     check(job.output(512) == Err(Refusal::OutputsFull))?;
     check(unchanged(&job, &twin))
@@ -58,13 +64,28 @@ fn literals_and_gates() -> Result<(), Fail> {
     let mut job = mapped(&mut cover, &mut arrivals)?;
     let twin = mapped(&mut cover, &mut arrivals)?;
     check(job.gate(Pair { left: 12, right: 0 }) == Err(Refusal::BadLiteral))?;
-    check(job.gate(Pair { left: 0, right: 65535 }) == Err(Refusal::BadLiteral))?;
+    check(
+        job.gate(Pair {
+            left: 0,
+            right: 65535,
+        })
+            == Err(Refusal::BadLiteral),
+    )?;
     check(job.output(12) == Err(Refusal::BadLiteral))?;
     check(job.retie(4, Pair { left: 8, right: 2 }) == Err(Refusal::BadLiteral))?;
     check(job.retie(4, Pair { left: 2, right: 11 }) == Err(Refusal::BadLiteral))?;
     for number in 0..=255u8 {
         if number != 4 && number != 5 {
-            check(job.retie(number, Pair { left: 0, right: 600 }) == Err(Refusal::NotAGate))?;
+            check(
+                job.retie(
+                    number,
+                    Pair {
+                        left: 0,
+                        right: 600,
+                    },
+                )
+                    == Err(Refusal::NotAGate),
+            )?;
         }
     }
     check(unchanged(&job, &twin) && job.is_kept(4) && job.is_kept(5))
@@ -98,13 +119,29 @@ fn refused_texts() -> Result<(), Fail> {
     let mut arrivals = [0; 256];
     let mut job = mapped(&mut cover, &mut arrivals)?;
     let twin = mapped(&mut cover, &mut arrivals)?;
-    let early = Fault { rule: Rule::Pattern, byte: 15, line: 1 };
+    let early = Fault {
+        rule: Rule::Pattern,
+        byte: 15,
+        line: 1,
+    };
     check(job.load(b"aag 1 1 0 0 0\n2") == Err(Refusal::Text(early)))?;
-    let zero = Fault { rule: Rule::Pattern, byte: 5, line: 0 };
+    let zero = Fault {
+        rule: Rule::Pattern,
+        byte: 5,
+        line: 0,
+    };
     check(job.load(b"aag 01") == Err(Refusal::Text(zero)))?;
-    let figures = Fault { rule: Rule::Figures, byte: 0, line: 0 };
+    let figures = Fault {
+        rule: Rule::Figures,
+        byte: 0,
+        line: 0,
+    };
     check(job.load(b"aag 2 1 0 0 0\n2\n") == Err(Refusal::Text(figures)))?;
-    let literal = Fault { rule: Rule::Literal, byte: 18, line: 3 };
+    let literal = Fault {
+        rule: Rule::Literal,
+        byte: 18,
+        line: 3,
+    };
     check(job.load(b"aag 2 1 0 1 1\n2\n4\n4 2 4\n") == Err(Refusal::Text(literal)))?;
     check(unchanged(&job, &twin) && job.is_kept(4) && job.is_kept(5))
 }
