@@ -1,4 +1,23 @@
 //! Handles one job by a script on standard input: a line a command, and an answer a line.
+//!
+//!     input                 ok N          the number of the new input
+//!     gate A B              ok N          the number of the new gate
+//!     output L              ok P          the place of the new output
+//!     retie G A B           ok
+//!     width K               ok
+//!     load N                ok NODES OUTPUTS      the next N bytes are a drawing's text, and then comes byte 10
+//!     map levels W          ok CELLS LISTS
+//!     map pins W            ok CELLS LISTS
+//!     arrivals              the arrivals of the last accepted map: levels as a number, pins as L,P
+//!     cover                 the cell list of its cover
+//!     evaluate ROW          the outputs of its cover; a digit for each input, and no ROW where there are none
+//!     write                 the drawing's text
+//!     kept                  the numbers of the kept gates
+//!     list G                the kept list of gate G, as {3} {1,2}, or none
+//!     # ..                  no answer
+//!
+//! A refusal is answered by `refused N`, with ` at P` where it has a place, and ` line L` behind it for a fault of a text.
+//! A line that is no command is answered by `unknown`; and what asks for an accepted map, before there is one, by `nothing`.
 
 mod answer;
 mod desk;

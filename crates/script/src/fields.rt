@@ -14,7 +14,8 @@ ghost use lib.ListN.{length};
 ghost use mathlib.Core.Bool.{true};
 ghost use mathlib.Core.Path.{_≡_};
 
-/// The most bytes of a text that a line announces.
+/// The most bytes of a text that a line announces; no drawing's text comes near it. A line that announces more is no
+/// command, and what follows it is read as lines.
 const MOST_BYTES: usize = 65_536;
 
 /// A number of 8 bits.
