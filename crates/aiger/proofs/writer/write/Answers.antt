@@ -6,20 +6,20 @@ use Rattle.aiger.specs.Pages.{Copied}
 use Rattle.aiger.proofs.Pages.{text_adds, lent, short_gates, short_outputs}
 use Rattle.aiger.proofs.writer.write.Goals as goal
 
-pub put-header-requires : goal.put-header-requires
-put-header-requires c =
+pub put_header-requires : goal.put_header-requires
+put_header-requires c =
     let h = lent _ _ _ _ c.args.table.now.law c.nodes-nodes.ensures c.outputs-outputs.ensures in
     (c.new-page.ensures.1, (sound_some _ h.nodes_sound, (h.nodes_few, h.outputs_few)))
 
-pub put-outputs-requires : goal.put-outputs-requires
-put-outputs-requires c =
+pub put_outputs-requires : goal.put_outputs-requires
+put_outputs-requires c =
     let h = lent _ _ _ _ c.args.table.now.law c.nodes-nodes.ensures c.outputs-outputs.ensures in
-    (omega (arith, c.new-page.ensures.1, c.put-header.ensures.room, c.put-inputs.ensures.room), (h.outputs_few, short_outputs _ _ h))
+    (omega (arith, c.new-page.ensures.1, c.put_header.ensures.room, c.put_inputs.ensures.room), (h.outputs_few, short_outputs _ _ h))
 
-pub put-gates-requires : goal.put-gates-requires
-put-gates-requires c =
+pub put_gates-requires : goal.put_gates-requires
+put_gates-requires c =
     let h = lent _ _ _ _ c.args.table.now.law c.nodes-nodes.ensures c.outputs-outputs.ensures in (
-      omega (arith, c.new-page.ensures.1, c.put-header.ensures.room, c.put-inputs.ensures.room, c.put-outputs.ensures.room),
+      omega (arith, c.new-page.ensures.1, c.put_header.ensures.room, c.put_inputs.ensures.room, c.put_outputs.ensures.room),
       (h.nodes_few, short_gates _ h.nodes_sound h.nodes_few),
     )
 
@@ -29,7 +29,7 @@ returns c =
     let ls = c.outputs-outputs.result.now in
     let e = c.nodes-nodes.ensures in
     let f = c.outputs-outputs.ensures in
-    let a = text_adds _ _ _ _ _ (heading (drawing ns ls)) (rows input_row 0 ns) (output_rows ls) (rows gate_row 0 ns) c.put-header.ensures c.put-inputs.ensures c.put-outputs.ensures c.put-gates.ensures in
-    subst (λ ts. Copied ts c.args.buffer.now c.copy-to.result c.copy-to.new.buffer)
+    let a = text_adds _ _ _ _ _ (heading (drawing ns ls)) (rows input_row 0 ns) (output_rows ls) (rows gate_row 0 ns) c.put_header.ensures c.put_inputs.ensures c.put_outputs.ensures c.put_gates.ensures in
+    subst (λ ts. Copied ts c.args.buffer.now c.copy_to.result c.copy_to.new.buffer)
     (a.text ∙ ap (λ l. l ++ text (drawing ns ls)) c.new-page.ensures.0 ∙ (λ i. text (drawing (e i) (f i))))
-    c.copy-to.ensures
+    c.copy_to.ensures

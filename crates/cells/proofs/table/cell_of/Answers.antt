@@ -20,5 +20,5 @@ returns c =
     let e : j ≡ length ls = omega arith in
     let held : c.loop-j.held ≡ ls ++ drop (length ls) zeros =
     c.loop-j.invariant ∙ ap (λ xs. xs ++ drop j zeros) (take_all j ls (omega arith)) ∙ ap (λ n. ls ++ drop n zeros) e in
-    let table = c.cell-table.ensures.is in
+    let table = c.cell_table.ensures.is in
     cc

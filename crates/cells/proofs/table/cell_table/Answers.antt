@@ -11,10 +11,10 @@ returns c =
     let nodes = c.args.nodes.now in
     let ls = c.args.leaves.now in
     let root = c.args.root in
-    let word = c.cone-word.result in
+    let word = c.cone_word.result in
     let t : c.fill.result ≡ table_of nodes ls root =
     packed_is c.fill.result table_bits (bits nodes ls root) (omega arith)
-    (λ m h. c.fill.ensures m h ∙ table_bit_same (length ls) (bit word) _ m (λ k l. c.cone-word.ensures k (omega (arith, pow_mono c.requires.few)))) in
+    (λ m h. c.fill.ensures m h ∙ table_bit_same (length ls) (bit word) _ m (λ k l. c.cone_word.ensures k (omega (arith, pow_mono c.requires.few)))) in
     record {
       is = t;
       rows = λ m h. ap (λ x. bit x m) t ∙ table_row nodes ls root m c.requires.few h;

@@ -12,8 +12,8 @@ use Rattle.drawing.proofs.ColumnLaws.{column_more, column_take}
 use Rattle.cells.specs.Truth.{bit, coning, in_row, leaf_bits, unset}
 use Rattle.cells.proofs.table.cone_word.Goals as goal
 
-pub own-word-own-requires : goal.own-word-own-requires
-own-word-own-requires c =
+pub own_word-own-requires : goal.own_word-own-requires
+own_word-own-requires c =
     let n = c.loop-n.n in
     let e : length (take (n - 0) c.loop-n.words) ≡ n = length-take-le _ c.loop-n.words (omega arith) ∙ sub-zero _ in
     let s = sound_at_lem c.args.nodes.now n c.requires.right (omega arith) in
@@ -24,7 +24,7 @@ loop-n-preserved c =
     let n = c.loop-n.n in
     let nodes = c.args.nodes.now in
     let words = c.loop-n.words in
-    let w = c.leaf-word.result in
+    let w = c.leaf_word.result in
     let node = get_or nodes n Constant in (
       length-set _ _ _ ∙ c.loop-n.invariant.0,
       λ m h.
@@ -33,8 +33,8 @@ loop-n-preserved c =
           let below = in_row m (take n words) in
           let long : n ≡ length below = sym (length-map (take n words) f ∙ length-take-le n words (omega arith)) in
           let here : bit w m ≡ coning pins below node =
-          c.leaf-word.ensures m h
-          ∙ ap (lookup pins n) (c.own-word-own.ensures m h ∙ ap (λ k. valuing unset (in_row m (take k words)) node) (sub-zero n))
+          c.leaf_word.ensures m h
+          ∙ ap (lookup pins n) (c.own_word-own.ensures m h ∙ ap (λ k. valuing unset (in_row m (take k words)) node) (sub-zero n))
           ∙ ap (λ k. lookup pins k (valuing unset below node)) long in
           sym (take-map f (n + 1) (set words n w))
           ∙ ap (take (n + 1)) (map-set f words n w)

@@ -9,13 +9,13 @@ use Rattle.cuts.proofs.list.enumerate.Goals as goal
 
 pub loop-cut-preserved : goal.loop-cut-preserved
 loop-cut-preserved c = (
-  count_more c.loop-cut.count c.note-all-count.result c.loop-cut.cut-index (length c.args.right.now) c.loop-cut.invariant.0 c.note-all-count.ensures.more,
+  count_more c.loop-cut.count c.note_all-count.result c.loop-cut.cut-index (length c.args.right.now) c.loop-cut.invariant.0 c.note_all-count.ensures.more,
   choice_noted leaves_of (λ s. leb (length s) c.args.most) c.args.left.now c.loop-cut.cut-index c.cut-item.result c.loop-cut-test.true c.cut-item.is
-      (sets_of c.args.right.now) (sets_of (take c.loop-cut.count c.loop-cut.rows)) _ c.loop-cut.invariant.1 c.note-all-count.ensures.noted,
+      (sets_of c.args.right.now) (sets_of (take c.loop-cut.count c.loop-cut.rows)) _ c.loop-cut.invariant.1 c.note_all-count.ensures.noted,
 )
 
-pub note-all-count-requires : goal.note-all-count-requires
-note-all-count-requires c =
+pub note_all-count-requires : goal.note_all-count-requires
+note_all-count-requires c =
     let room = room_more c.loop-cut.count c.loop-cut.cut-index (length c.args.left.now) (length c.args.right.now) (length c.args.rows.now) c.loop-cut.invariant.0 c.loop-cut-test.true c.requires.room in
     record { few = c.requires.few; room = omega arith }
 

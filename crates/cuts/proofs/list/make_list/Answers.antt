@@ -10,8 +10,8 @@ bounds c = omega (arith, gate_range c.args.nodes.now c.args.gate c.requires.tied
 pub bounds-nodes-from : goal.bounds-nodes-from
 bounds-nodes-from c = omega (arith, gate_range c.args.nodes.now c.args.gate c.requires.tied)
 
-pub list-rows-count-requires : goal.list-rows-count-requires
-list-rows-count-requires c =
+pub list_rows-count-requires : goal.list_rows-count-requires
+list_rows-count-requires c =
     let nodes = c.args.nodes.now in
     let p = c.in-Gate.pair in
     let here = read_at nodes c.from.result c.args.gate (Gate p) c.from.ensures c.in-Gate.is in
@@ -27,5 +27,5 @@ list-rows-count-requires c =
 pub returns : goal.returns
 returns c = (
   omega arith,
-  copied_list c.args.nodes.now c.args.width c.args.gate c.list-rows-count.result _ c.list-rows-count.new.rows c.copy-from-slice.new.self _ (omega arith) (omega arith) c.copy-from-slice.ensures.after c.list-rows-count.ensures.made,
+  copied_list c.args.nodes.now c.args.width c.args.gate c.list_rows-count.result _ c.list_rows-count.new.rows c.copy_from_slice.new.self _ (omega arith) (omega arith) c.copy_from_slice.ensures.after c.list_rows-count.ensures.made,
 )

@@ -6,7 +6,7 @@ use Rattle.cuts.specs.Antichain.{add, survivors}
 use Rattle.cuts.specs.Leaves.{leaves_of, sets_of}
 use Rattle.cuts.proofs.Unions.{pair_noted, pair_passed}
 use Rattle.cuts.proofs.list.note_all.Goals as goal
-use Rattle.cuts.proofs.list.note_all.Goals.{in-Some, in-default}
+use Rattle.cuts.proofs.list.note_all.Goals.{in-Some, in_default}
 
 pub loop-other-preserved : goal.loop-other-preserved
 loop-other-preserved c =
@@ -25,12 +25,12 @@ loop-other-preserved c =
                 _ (subst (λ z. leb (length z) c.args.most ≡ true) e.0 (le-leb _ _ e.1))
                 (w.note-noted.ensures.noted ∙ ap (add rows) e.0),
           ))
-      | in-default w ↦ (
+      | in_default w ↦ (
         omega (arith, w.noted-is, c.loop-other.invariant.0),
         ap (λ n. sets_of (take n c.match-join.rows)) w.noted-is
             ∙ ap (λ z. sets_of (take c.loop-other.noted z)) w.rows-is
             ∙ pair_passed leaves_of short c.args.others.now c.loop-other.other-index x c.loop-other-test.true c.other-item.is start rows a c.loop-other.invariant.1
-            (lt-leb (length (union a (leaves_of x))) c.args.most w.in-default.ensures),
+            (lt-leb (length (union a (leaves_of x))) c.args.most w.in_default.ensures),
       )
     ]
 

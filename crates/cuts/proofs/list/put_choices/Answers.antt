@@ -36,6 +36,6 @@ returns-in-Gate c =
     let here = read_at c.args.nodes.now c.from.result c.args.fanin (Gate c.in-Gate.field-0) c.from.ensures c.in-Gate.is in
     record {
       within = omega (arith, c.requires.room (ap is_gate here));
-      put = choices_put leaves_of c.args.rows.now c.requires.start c.single-in-Gate.result (c.args.fanin ∷ []) c.single-in-Gate.ensures c.args.list.now c.copy-from-slice.new.self _ _ c.copy-from-slice.ensures.after refl
+      put = choices_put leaves_of c.args.rows.now c.requires.start c.single-in-Gate.result (c.args.fanin ∷ []) c.single-in-Gate.ensures c.args.list.now c.copy_from_slice.new.self _ _ c.copy_from_slice.ensures.after refl
           ∙ sym (ap (ways (sets_of c.args.list.now) c.args.fanin) here);
     }

@@ -5,11 +5,11 @@ use Rattle.script.proofs.Scans.{every_lost, every_next, every_all}
 use Rattle.script.proofs.Numbers.{read_on, no_number, too_large, read_all}
 use Rattle.script.proofs.number.value.Goals as goal
 
-pub returns-then-not-is-ascii-digit : goal.returns-then-not-is-ascii-digit
-returns-then-not-is-ascii-digit c x l e =
+pub returns-then-not-is_ascii_digit : goal.returns-then-not-is_ascii_digit
+returns-then-not-is_ascii_digit c x l e =
     no_number _ x (omega arith)
     (every_lost is_ascii_digit _ c.loop-byte.byte-index _ 0 c.loop-byte-test.true refl c.loop-byte.invariant.0
-    (sym c.if-not-is-ascii-digit.ensures.value))
+    (sym c.if-not-is_ascii_digit.ensures.value))
     e
 
 pub returns-then-n-most : goal.returns-then-n-most
@@ -21,7 +21,7 @@ returns-then-n-most c x l e =
 pub loop-byte-preserved : goal.loop-byte-preserved
 loop-byte-preserved c = (
   every_next is_ascii_digit _ c.loop-byte.byte-index _ 0 c.loop-byte-test.true refl c.loop-byte.invariant.0
-      (sym c.if-not-is-ascii-digit.ensures.value),
+      (sym c.if-not-is_ascii_digit.ensures.value),
   sym (at_drop_more (read_on c.loop-byte.n) _ c.loop-byte.byte-index 0 c.loop-byte-test.true) ∙ c.loop-byte.invariant.1,
   c.if-n-most.false,
 )

@@ -6,11 +6,11 @@ use Rattle.aiger.proofs.line.Line.close.Goals as goal
 pub returns-then-self-gt0 : goal.returns-then-self-gt0
 returns-then-self-gt0 c = newline_early c.args.self.now c.broken.result c.broken.ensures c.if-self-gt0.true
 
-pub returns-in-err-number : goal.returns-in-err-number
-returns-in-err-number c =
-    let h = c.in-err-number.ensures in
-    let p = err_from_is_err_and c.from-residual.result c.from-residual.ensures.1 in
+pub returns-in_err-number : goal.returns-in_err-number
+returns-in_err-number c =
+    let h = c.in_err-number.ensures in
+    let p = err_from_is_err_and c.from_residual.result c.from_residual.ensures.1 in
     rw (p.1, p.2) (newline_first c.args.self.now _ h.1 h.0)
 
 pub returns : goal.returns
-returns c = closes_line c.args.self.now c.in-ok-number.number c.in-ok-number.ensures (omega arith) (omega arith)
+returns c = closes_line c.args.self.now c.in_ok-number.number c.in_ok-number.ensures (omega arith) (omega arith)

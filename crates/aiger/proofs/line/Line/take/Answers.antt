@@ -9,11 +9,11 @@ returns-then-byte-lt48 c =
     let d : (b < 48) ⊎ (57 < b) = ⊎_elim (λ l. inl l) (λ r. inr r.1) c.then-byte-lt48.either in
     other c.args.self.now c.broken.result c.broken.ensures b d c.if-byte-eq32.false c.requires.1.1
 
-pub returns-in-err-number : goal.returns-in-err-number
-returns-in-err-number c =
-    let h = c.in-err-number.ensures in
-    let p = err_from_is_err_and c.from-residual.result c.from-residual.ensures.1 in
+pub returns-in_err-number : goal.returns-in_err-number
+returns-in_err-number c =
+    let h = c.in_err-number.ensures in
+    let p = err_from_is_err_and c.from_residual.result c.from_residual.ensures.1 in
     rw (p.1, p.2) (stops c.args.self.now c.args.byte _ h.1 h.0)
 
 pub returns : goal.returns
-returns c = grows c.args.self.now c.args.byte c.in-ok-number.number c.in-ok-number.ensures
+returns c = grows c.args.self.now c.args.byte c.in_ok-number.number c.in_ok-number.ensures

@@ -11,18 +11,18 @@ returns c =
     let r = c.args.self.now in
     let w : width r.part ≡ width Gates = ap width c.requires.1 in
     let lt : 2 < r.line.field = omega (arith, c.requires.0.fields) in
-    let puts = c.in-ok-gate.ensures.puts in
+    let puts = c.in_ok-gate.ensures.puts in
     record {
       sound = c.next.ensures.sound;
       on = c.next.ensures.on;
       same = λ bs. ap (λ q. closing q r bs) c.requires.1 ∙ line_passes r Gates _ (same_gate (drafted r.draft) r.line.fields r.line.field lt) _ _ puts.0 puts.1 c.next.ensures bs;
     }
 
-pub returns-in-err-gate : goal.returns-in-err-gate
-returns-in-err-gate c =
+pub returns-in_err-gate : goal.returns-in_err-gate
+returns-in_err-gate c =
     let r = c.args.self.now in
     let w : width r.part ≡ width Gates = ap width c.requires.1 in
     let lt : 2 < r.line.field = omega (arith, c.requires.0.fields) in
-    let puts = c.in-err-gate.ensures.puts in
-    let p = err_from_is_err_and c.from-residual.result c.from-residual.ensures.1 in
+    let puts = c.in_err-gate.ensures.puts in
+    let p = err_from_is_err_and c.from_residual.result c.from_residual.ensures.1 in
     rw (p.1, p.2) (λ bs. ap (λ q. closing q r bs) c.requires.1 ∙ line_fails r Gates _ (same_gate (drafted r.draft) r.line.fields r.line.field lt) _ puts.0 (puts.1 ∙ c.misplaced-otherwise.ensures) bs)

@@ -2,5 +2,5 @@ use Rattle.std.proofs.Common.{refl, arith}
 use Rattle.cells.proofs.Laws.{lawful_empty}
 use Rattle.cells.proofs.cover.Cover.new.Goals as goal
 
-pub invariant-of-result : goal.invariant-of-result
-invariant-of-result c = ((refl, refl, refl), ((omega arith, omega arith, omega arith), (lawful_empty, tt)))
+pub invariant_of-result : goal.invariant_of-result
+invariant_of-result c = ((refl, refl, refl), ((omega arith, omega arith, omega arith), (lawful_empty, tt)))

@@ -8,8 +8,8 @@ use Rattle.cells.specs.Laws.{lawful_cover}
 use Rattle.cells.proofs.Laws.{lawful_cell}
 use Rattle.cells.proofs.cover.Cover.push_cell.Goals as goal
 
-pub invariant-of-self : goal.invariant-of-self
-invariant-of-self c =
+pub invariant_of-self : goal.invariant_of-self
+invariant_of-self c =
     let s : Cover = c.args.self.now in
     let n = netlist_of s in
     let e = length-take-le s.cell_count s.cells (omega arith) in

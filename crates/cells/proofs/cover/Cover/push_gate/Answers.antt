@@ -6,10 +6,10 @@ use Rattle.cells.specs.Laws.{cell_lawful, names_of, roots_of}
 use Rattle.cells.proofs.Laws.{gate_lawful}
 use Rattle.cells.proofs.cover.Cover.push_gate.Goals as goal
 
-pub push-cell-requires : goal.push-cell-requires
-push-cell-requires c =
+pub push_cell-requires : goal.push_cell-requires
+push_cell-requires c =
     let n = netlist_of c.args.self.now in
-    let e = sym c.cell-of.ensures in
+    let e = sym c.cell_of.ensures in
     record {
       room = c.requires.room;
       positive = subst (λ (x : Cell). 0 < x.root) e c.requires.positive;

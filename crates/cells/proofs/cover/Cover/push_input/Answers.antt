@@ -7,8 +7,8 @@ use Rattle.cells.specs.Laws.{lawful_cover}
 use Rattle.cells.proofs.Laws.{lawful_input}
 use Rattle.cells.proofs.cover.Cover.push_input.Goals as goal
 
-pub invariant-of-self : goal.invariant-of-self
-invariant-of-self c =
+pub invariant_of-self : goal.invariant_of-self
+invariant_of-self c =
     let s : Cover = c.args.self.now in
     let n = netlist_of s in
     let e = length-take-le s.input_count s.inputs (omega arith) in

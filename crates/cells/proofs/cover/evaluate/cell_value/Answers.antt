@@ -14,8 +14,8 @@ pub loop-j-preserved : goal.loop-j-preserved
 loop-j-preserved c =
     row_more (λ k. get_or c.args.values.now k 0) c.requires.small c.args.cell c.loop-j.row c.loop-j.j c.requires.few (omega arith) (omega arith) (omega arith) c.loop-j.invariant
 
-pub overflow-shr-result : goal.overflow-shr-result
-overflow-shr-result c =
+pub overflow_shr-result : goal.overflow_shr-result
+overflow_shr-result c =
     let b = row_below (λ k. get_or c.args.values.now k 0) c.requires.small (leaves_of c.args.cell) c.loop-j.j most_leaves (simp length-take (omega arith)) in
     subst (λ (x : ℕ). x < 2 ^ most_leaves) (sym c.loop-j.invariant) b
 

@@ -16,24 +16,24 @@ use Rattle.cells.proofs.Settle.{outputs_same}
 use Rattle.cells.proofs.Agree.{covers_agree}
 use Rattle.cells.proofs.cover.evaluate.evaluate.Goals as goal
 
-pub bind-inputs-values-requires : goal.bind-inputs-values-requires
-bind-inputs-values-requires c =
-    record { long = omega arith; small = binary_row c.args.row.now 0 (sym c.first-above-one.ensures ∙ c.in-default.is) }
+pub bind_inputs-values-requires : goal.bind_inputs-values-requires
+bind_inputs-values-requires c =
+    record { long = omega arith; small = binary_row c.args.row.now 0 (sym c.first_above_one.ensures ∙ c.in_default.is) }
 
-pub settle-cells-requires : goal.settle-cells-requires
-settle-cells-requires c =
+pub settle_cells-requires : goal.settle_cells-requires
+settle_cells-requires c =
     let s : Cover = c.args.cover.now in
     record {
       few = ap (every (λ x. leb x.count most_leaves)) c.cells.ensures ∙ cover_few (netlist_of s) s.law;
-      small = c.bind-inputs-values.ensures.small;
+      small = c.bind_inputs-values.ensures.small;
     }
 
-pub write-outputs-requires : goal.write-outputs-requires
-write-outputs-requires c =
+pub write_outputs-requires : goal.write_outputs-requires
+write_outputs-requires c =
     let s : Cover = c.args.cover.now in
     record {
       there = ap (every (λ l. ltb (node_of l) most_nodes)) c.outputs-outputs.ensures ∙ cover_outputs (netlist_of s) s.law;
-      small = c.settle-cells.ensures.small;
+      small = c.settle_cells.ensures.small;
       room = omega arith;
     }
 
@@ -43,18 +43,18 @@ returns c =
     let n : Netlist = netlist_of s in
     let row = c.args.row.now in
     let old = c.args.out.now in
-    let none : first_above 0 row ≡ None = sym c.first-above-one.ensures ∙ c.in-default.is in
+    let none : first_above 0 row ≡ None = sym c.first_above_one.ensures ∙ c.in_default.is in
     let li = ap length c.inputs-inputs.ensures in
     let lo = ap length c.outputs-outputs.ensures in
     let v : evaluate_answer n row old ≡ Ok tt = row_accepted n row old (omega arith) (omega arith) none in
-    let f : ℕ → ℕ = λ k. get_or c.settle-cells.new.values k 0 in
-    let start : Holds c.bind-inputs-values.result (bound (map plain n.inputs) row) =
-    subst (λ (is : List ℕ). Holds c.bind-inputs-values.result (bound (map plain is) row)) c.inputs-inputs.ensures c.bind-inputs-values.ensures.holds in
-    let held : Holds c.settle-cells.new.values (settled n row) =
-    subst (λ (cs : List Cell). Holds c.settle-cells.new.values (after (bound (map plain n.inputs) row) cs)) c.cells.ensures
-    (c.settle-cells.ensures.holds (bound (map plain n.inputs) row) start) in
-    let b : c.write-outputs.new.out ≡ answers n row ++ drop (length n.outputs) old =
-    c.write-outputs.ensures
+    let f : ℕ → ℕ = λ k. get_or c.settle_cells.new.values k 0 in
+    let start : Holds c.bind_inputs-values.result (bound (map plain n.inputs) row) =
+    subst (λ (is : List ℕ). Holds c.bind_inputs-values.result (bound (map plain is) row)) c.inputs-inputs.ensures c.bind_inputs-values.ensures.holds in
+    let held : Holds c.settle_cells.new.values (settled n row) =
+    subst (λ (cs : List Cell). Holds c.settle_cells.new.values (after (bound (map plain n.inputs) row) cs)) c.cells.ensures
+    (c.settle_cells.ensures.holds (bound (map plain n.inputs) row) start) in
+    let b : c.write_outputs.new.out ≡ answers n row ++ drop (length n.outputs) old =
+    c.write_outputs.ensures
     ∙ ap (λ os. map (output_value f) os ++ drop (length os) old) c.outputs-outputs.ensures
     ∙ ap (λ xs. xs ++ drop (length n.outputs) old) (outputs_same f (look (settled n row)) held n.outputs) in
     let l : length (answers n row) ≡ length n.outputs = length-map n.outputs (output_value (look (settled n row))) in

@@ -13,8 +13,8 @@ use Rattle.cells.proofs.cover.evaluate.settle_cells.Goals as goal
 pub loop-k-init : goal.loop-k-init
 loop-k-init c = (omega arith, c.requires.small, λ env h. h)
 
-pub cell-value-requires : goal.cell-value-requires
-cell-value-requires c = record {
+pub cell_value-requires : goal.cell_value-requires
+cell_value-requires c = record {
   few = leb-true _ most_leaves (every_at (λ x. leb x.count most_leaves) c.args.cells.now c.loop-k.k _ c.requires.few (omega arith));
   small = c.loop-k.invariant.1;
 }
@@ -22,9 +22,9 @@ cell-value-requires c = record {
 pub loop-k-preserved : goal.loop-k-preserved
 loop-k-preserved c = (
   length-set _ _ _ ∙ c.loop-k.invariant.0,
-  binary_set c.loop-k.values _ _ c.loop-k.invariant.1 c.cell-value.ensures.small,
-  λ env h. cell_more c.loop-k.values env c.args.cells.now c.loop-k.k c.cell-value.result _
-      (omega arith) (omega arith) c.cell-value.ensures.is (c.loop-k.invariant.2 env h),
+  binary_set c.loop-k.values _ _ c.loop-k.invariant.1 c.cell_value.ensures.small,
+  λ env h. cell_more c.loop-k.values env c.args.cells.now c.loop-k.k c.cell_value.result _
+      (omega arith) (omega arith) c.cell_value.ensures.is (c.loop-k.invariant.2 env h),
 )
 
 pub returns : goal.returns

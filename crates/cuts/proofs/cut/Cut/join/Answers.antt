@@ -22,14 +22,14 @@ loop-step-preserved c =
       length-set c.loop-step.leaves c.from.result c.in-Some.step.0 ∙ c.loop-step.invariant.4,
     )
 
-pub invariant-of-result : goal.invariant-of-result
-invariant-of-result c =
+pub invariant_of-result : goal.invariant_of-result
+invariant_of-result c =
     let s = c.args.self.now in
     let t = c.args.other.now in
-    let row = merge_done _ _ (leaves_of s) (leaves_of t) c.loop-step.leaves _ _ c.loop-step.len c.leaves-a.ensures c.leaves-b.ensures c.loop-step.invariant.3 c.in-default.ensures in
-    (c.loop-step.invariant.4, (omega arith, (ap (rises 0) row ∙ rises_union 0 (leaves_of s) (leaves_of t) s.rising t.rising, tt)))
+    let row = merge_done _ _ (leaves_of s) (leaves_of t) c.loop-step.leaves _ _ c.loop-step.len c.leaves-a.ensures c.leaves-b.ensures c.loop-step.invariant.3 c.in_default.ensures in
+    record { room = c.loop-step.invariant.4; few = omega arith; rising = ap (rises 0) row ∙ rises_union 0 (leaves_of s) (leaves_of t) s.rising t.rising }
 
 pub returns : goal.returns
 returns c =
-    let row = merge_done _ _ (leaves_of c.args.self.now) (leaves_of c.args.other.now) c.loop-step.leaves _ _ c.loop-step.len c.leaves-a.ensures c.leaves-b.ensures c.loop-step.invariant.3 c.in-default.ensures in
+    let row = merge_done _ _ (leaves_of c.args.self.now) (leaves_of c.args.other.now) c.loop-step.leaves _ _ c.loop-step.len c.leaves-a.ensures c.leaves-b.ensures c.loop-step.invariant.3 c.in_default.ensures in
     (row, omega (arith, length-take-le c.loop-step.len c.loop-step.leaves (omega arith)))

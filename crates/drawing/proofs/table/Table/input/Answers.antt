@@ -2,10 +2,10 @@ use Rattle.std.proofs.Common.{arith, length-set}
 use Rattle.drawing.proofs.Grow.{input_put, input_lawful}
 use Rattle.drawing.proofs.table.Table.input.Goals as goal
 
-pub invariant-of-self : goal.invariant-of-self
-invariant-of-self c =
+pub invariant_of-self : goal.invariant_of-self
+invariant_of-self c =
     let t = c.args.self.now in
-    ((simp length-set t.room.0, t.room.1), ((omega arith, t.within.1), (input_lawful t.nodes t.count _ (omega arith) (omega arith) t.law, tt)))
+    record { room = (simp length-set t.room.0, t.room.1); within = (omega arith, t.within.1); law = input_lawful t.nodes t.count _ (omega arith) (omega arith) t.law }
 
 pub returns : goal.returns
 returns c =

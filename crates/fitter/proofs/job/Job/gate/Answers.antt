@@ -7,8 +7,8 @@ use Rattle.fitter.proofs.Stays.{stays_node, job_stays, unless_same}
 use Rattle.fitter.proofs.Same.{same_job}
 use Rattle.fitter.proofs.job.Job.gate.Goals as goal
 
-pub invariant-of-self : goal.invariant-of-self
-invariant-of-self c =
+pub invariant_of-self : goal.invariant_of-self
+invariant_of-self c =
     let j = c.args.self.now in
     let t = c.gate.new.self in
     let s = stays_node (drawing_of j.table) (drawing_of t) (Gate c.args.pair) (is_ok (gate_answer (drawing_of j.table) c.args.pair)) c.gate.ensures.after j.table.law t.law in

@@ -7,8 +7,8 @@ use Rattle.fitter.specs.Calls.{drawing_from}
 use Rattle.fitter.proofs.Stays.{nothing_kept, unkept}
 use Rattle.fitter.proofs.job.Job.load.Goals as goal
 
-pub invariant-of-self : goal.invariant-of-self
-invariant-of-self c =
+pub invariant_of-self : goal.invariant_of-self
+invariant_of-self c =
     let none = nothing_kept _ most_nodes c.clear.ensures in (
       c.args.self.now.part,
       ((λ v h. absurd (none v h)), ((λ v h s. absurd (none v h)), ((λ v h. absurd (none v h)), tt))),

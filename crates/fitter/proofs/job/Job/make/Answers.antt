@@ -5,8 +5,8 @@ use Rattle.fitter.specs.Keeping.{row_of}
 use Rattle.fitter.proofs.AtHand.{keep_gates, keep_listed, keep_counted, held_set, kept_again}
 use Rattle.fitter.proofs.job.Job.make.Goals as goal
 
-pub invariant-of-self : goal.invariant-of-self
-invariant-of-self c =
+pub invariant_of-self : goal.invariant_of-self
+invariant_of-self c =
     let j = c.args.self.now in
     let k = c.keep.new.self in
     let m = c.in-Some.ensures.1 in

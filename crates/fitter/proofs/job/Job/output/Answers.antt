@@ -6,8 +6,8 @@ use Rattle.fitter.proofs.Stays.{stays_output, job_stays, unless_same}
 use Rattle.fitter.proofs.Same.{same_job}
 use Rattle.fitter.proofs.job.Job.output.Goals as goal
 
-pub invariant-of-self : goal.invariant-of-self
-invariant-of-self c =
+pub invariant_of-self : goal.invariant_of-self
+invariant_of-self c =
     let j = c.args.self.now in
     let t = c.output.new.self in
     let s = stays_output (drawing_of j.table) (drawing_of t) ((drawing_of j.table).outputs ++ c.args.literal ∷ []) (is_ok (output_answer (drawing_of j.table) c.args.literal)) c.output.ensures.after in

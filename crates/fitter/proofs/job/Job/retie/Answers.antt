@@ -14,14 +14,14 @@ use Rattle.fitter.proofs.Stays.{job_stays, unless_is}
 use Rattle.fitter.proofs.Retied.{stays_equal, tied, retied_gates, retied_listed, retied_counted}
 use Rattle.fitter.proofs.job.Job.retie.Goals as goal
 
-pub invariant-of-self : goal.invariant-of-self
-invariant-of-self c =
+pub invariant_of-self : goal.invariant_of-self
+invariant_of-self c =
     let j = c.args.self.now in
     let s = stays_equal (drawing_of j.table).nodes (drawing_of c.retie.new.self).nodes (ap (λ t. (drawing_of t).nodes) c.in-err-retie.ensures.refused) in
     job_stays j c.retie.new.self s
 
-pub invariant-of-self-2 : goal.invariant-of-self-2
-invariant-of-self-2 c =
+pub invariant_of-self-2 : goal.invariant_of-self-2
+invariant_of-self-2 c =
     let j = c.args.self.now in
     let g = c.args.gate in
     let d = drawing_of j.table in

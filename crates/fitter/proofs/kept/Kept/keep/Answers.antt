@@ -4,8 +4,8 @@ use Rattle.cuts.specs.Limits.{most_cuts}
 use Rattle.fitter.proofs.FlatRows.{lens_small}
 use Rattle.fitter.proofs.kept.Kept.keep.Goals as goal
 
-pub invariant-of-self : goal.invariant-of-self
-invariant-of-self c =
+pub invariant_of-self : goal.invariant_of-self
+invariant_of-self c =
     let k = c.args.self.now in
     ((omega arith, simp length-set k.room.1, simp length-set k.room.2), (λ u. lens_small k.lens c.args.v _ u k.short c.requires, tt))
 
