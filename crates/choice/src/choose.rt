@@ -35,7 +35,7 @@ fn is_smaller(a: &[u8], b: &[u8]) -> bool
 /// The arrival of a cell by the cut.
 fn arrival_by<F: Family>(family: &F, table: &[F::Arrival], cut: &Cut) -> F::Arrival
     requires { below (length table.now) (leaves_of cut.now) ≡ true }
-    ensures { result ≡ cell_arrival (delay family.now) table.now (leaves_of cut.now) }
+    ensures { result ≡ cell_arrival (F.delay family.now) table.now (leaves_of cut.now) }
 {
     cell_arrival(family, table, cut.leaves())
 }
@@ -43,7 +43,7 @@ fn arrival_by<F: Family>(family: &F, table: &[F::Arrival], cut: &Cut) -> F::Arri
 /// Whether the cut `a`, whose cell arrives at `x`, is to be taken rather than `b`, whose cell arrives at `y`: the earlier one,
 /// of two that are as early the one with fewer leaves, and then the one with the smaller leaf at the first difference.
 fn rather<F: Family>(family: &F, x: F::Arrival, a: &Cut, y: F::Arrival, b: &Cut) -> bool
-    ensures { result ≡ beats (delay family.now) x (leaves_of a.now) y (leaves_of b.now) }
+    ensures { result ≡ beats (F.delay family.now) x (leaves_of a.now) y (leaves_of b.now) }
 {
     !family.not_later(y, x) || family.not_later(x, y) && is_smaller(a.leaves(), b.leaves())
 }
@@ -52,8 +52,8 @@ fn rather<F: Family>(family: &F, x: F::Arrival, a: &Cut, y: F::Arrival, b: &Cut)
 pub fn choose<F: Family>(family: &F, table: &[F::Arrival], list: &[Cut]) -> (Cut, F::Arrival)
     requires some { 0 < length list.now }
     requires within { every (below (length table.now)) (sets_of list.now) ≡ true }
-    ensures cut { leaves_of result.0 ≡ taken (delay family.now) table.now (sets_of list.now) }
-    ensures arrival { result.1 ≡ cell_arrival (delay family.now) table.now (leaves_of result.0) }
+    ensures cut { leaves_of result.0 ≡ taken (F.delay family.now) table.now (sets_of list.now) }
+    ensures arrival { result.1 ≡ cell_arrival (F.delay family.now) table.now (leaves_of result.0) }
 {
     let mut best = list[0];
     let mut arrival = arrival_by(family, table, &best);
@@ -79,8 +79,8 @@ pub fn arrive<F: Family>(
     requires place { v < length table.old }
     requires some { needed ≡ true → 0 < length list.now }
     requires within { needed ≡ true → every (below (length table.old)) (sets_of list.now) ≡ true }
-    ensures cut { leaves_of result ≡ cut_by (delay family.now) table.old (sets_of list.now) needed }
-    ensures arrival { table.new ≡ slice_set table.old v (arrival_by (delay family.now) table.old (sets_of list.now) needed) }
+    ensures cut { leaves_of result ≡ cut_by (F.delay family.now) table.old (sets_of list.now) needed }
+    ensures arrival { table.new ≡ slice_set table.old v (arrival_by (F.delay family.now) table.old (sets_of list.now) needed) }
 {
     if !needed {
         table[v] = family.start();

@@ -9,10 +9,10 @@ use family::Family;
 
 /// What is proved of the choice, for every family.
 pub fn choice_stands<F: Family>(family: &F) -> u8
-    ensures first { BestIsFirst (delay family.now) }
-    ensures reached { BestIsReached (delay family.now) }
-    ensures outputs { OutputsFirst (delay family.now) }
-    ensures needed { NeededSuffice (delay family.now) }
+    ensures first { BestIsFirst (F.delay family.now) }
+    ensures reached { BestIsReached (F.delay family.now) }
+    ensures outputs { OutputsFirst (F.delay family.now) }
+    ensures needed { NeededSuffice (F.delay family.now) }
 {
     0
 }

@@ -73,9 +73,9 @@ pub fn fill<F: Family>(
     requires law { lawful (drawing nodes.now outputs.now) ≡ true }
     requires wide { (2 ≤ width) × (width ≤ most_leaves) }
     requires each { length nodes.now ≤ length cuts.now }
-    requires taken { Chosen (delay family.now) nodes.now outputs.now width (length nodes.now) (sets_of cuts.now) }
-    ensures netlist { netlist_of cover.new ≡ chosen (delay family.now) (drawing nodes.now outputs.now) width }
-    ensures count { result ≡ length (chosenCells (delay family.now) nodes.now width outputs.now) }
+    requires taken { Chosen (F.delay family.now) nodes.now outputs.now width (length nodes.now) (sets_of cuts.now) }
+    ensures netlist { netlist_of cover.new ≡ chosen (F.delay family.now) (drawing nodes.now outputs.now) width }
+    ensures count { result ≡ length (chosenCells (F.delay family.now) nodes.now width outputs.now) }
 {
     let marks = reached_by(nodes, outputs, cuts);
     cover.clear();

@@ -8,14 +8,14 @@ use family::Family;
 
 /// What is proved of the chosen cover, for every family.
 pub fn chosen_stands<F: Family>(family: &F) -> u8
-    ensures covers { ChosenCovers (delay family.now) }
-    ensures agrees { ChosenAgrees (delay family.now) }
-    ensures narrow { ChosenNarrow (delay family.now) }
-    ensures fits { ChosenFits (delay family.now) }
+    ensures covers { ChosenCovers (F.delay family.now) }
+    ensures agrees { ChosenAgrees (F.delay family.now) }
+    ensures narrow { ChosenNarrow (F.delay family.now) }
+    ensures fits { ChosenFits (F.delay family.now) }
     ensures rivals { RivalsCover }
-    ensures earliest { ChosenEarliest (delay family.now) }
-    ensures first { ChosenFirst (delay family.now) }
-    ensures best { ChosenBest (delay family.now) }
+    ensures earliest { ChosenEarliest (F.delay family.now) }
+    ensures first { ChosenFirst (F.delay family.now) }
+    ensures best { ChosenBest (F.delay family.now) }
 {
     0
 }

@@ -20,7 +20,7 @@ most = 65535
 
 -- levels: one more for each cell
 abbrev pub levels : ℕ → Delay ℕ
-levels w = record { width = w; start = 0; not_later = leb; result = λ r n. min (r + 1) most }
+levels w = record { width = w; start = 0; not_later = nat_le; result = λ r n. min (r + 1) most }
 
 -- pairs of levels and pins: the levels decide, and then the pins
 abbrev pub pins_not_later : ℕ × ℕ → ℕ × ℕ → Bool

@@ -19,8 +19,8 @@ pub fn walk<F: Family>(
     cover: &mut Cover,
     arrivals: &mut [F::Arrival],
 ) -> Result<(usize, usize), Refusal>
-    ensures answers { AnswersFor (delay family.now) (book_of_calls (walked (delay family.now).width (length arrivals.old) text.now)) (length arrivals.old) result (netlist_of cover.new) }
-    ensures tells { IfOk result (λ p. Tells (delay family.now) (walked (delay family.now).width (length arrivals.old) text.now) p (netlist_of cover.new) arrivals.new) }
+    ensures answers { AnswersFor (F.delay family.now) (book_of_calls (walked (F.delay family.now).width (length arrivals.old) text.now)) (length arrivals.old) result (netlist_of cover.new) }
+    ensures tells { IfOk result (λ p. Tells (F.delay family.now) (walked (F.delay family.now).width (length arrivals.old) text.now) p (netlist_of cover.new) arrivals.new) }
 {
     let mut job = Job::new();
     let _ = job.input();

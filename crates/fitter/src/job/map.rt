@@ -22,9 +22,9 @@ impl Job {
         cover: &mut Cover,
         arrivals: &mut [F::Arrival],
     ) -> Result<(usize, usize), Refusal>
-        ensures mapped { Mapped (delay family.now) self.old cover.old arrivals.old result self.new cover.new arrivals.new }
-        ensures did { Did (map_by (delay family.now).width (length arrivals.old)) self.old self.new }
-        ensures law { (h : List Call) → Handled h self.old → AnswersFor (delay family.now) (book_of_calls h) (length arrivals.old) result (netlist_of cover.new) }
+        ensures mapped { Mapped (F.delay family.now) self.old cover.old arrivals.old result self.new cover.new arrivals.new }
+        ensures did { Did (map_by (F.delay family.now).width (length arrivals.old)) self.old self.new }
+        ensures law { (h : List Call) → Handled h self.old → AnswersFor (F.delay family.now) (book_of_calls h) (length arrivals.old) result (netlist_of cover.new) }
     {
         if family.width() != self.width {
             return Err(Refusal::BadWidth);

@@ -24,8 +24,8 @@ impl Job {
         requires marked { MarksNeeded (book_of self.now).drawing marks.now }
         requires lists { AllKept self.now }
         requires room { length (book_of self.now).drawing.nodes ≤ length table.old }
-        ensures cuts { Chosen (delay family.now) (book_of self.now).drawing.nodes (book_of self.now).drawing.outputs self.now.width (length (book_of self.now).drawing.nodes) (sets_of result) }
-        ensures arrivals { table.new ≡ arrival_table (delay family.now) (book_of self.now) ++ drop (length (book_of self.now).drawing.nodes) table.old }
+        ensures cuts { Chosen (F.delay family.now) (book_of self.now).drawing.nodes (book_of self.now).drawing.outputs self.now.width (length (book_of self.now).drawing.nodes) (sets_of result) }
+        ensures arrivals { table.new ≡ arrival_table (F.delay family.now) (book_of self.now) ++ drop (length (book_of self.now).drawing.nodes) table.old }
     {
         let mut cuts = [Cut::empty(); MOST_NODES];
         for v in 0..self.table.nodes().len() {

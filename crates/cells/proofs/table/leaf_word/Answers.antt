@@ -11,7 +11,7 @@ loop-j-init c = λ m d. ap (λ x. lookup (leaf_bits c.args.leaves.now x) c.args.
 pub returns-then-leaf-node : goal.returns-then-leaf-node
 returns-then-leaf-node c = λ m h.
     let j = c.loop-j.j in
-    let d = bit c.args.own_val m in
+    let d = bit c.args.own m in
     leaf_word_bit j m (omega arith) h
     ∙ sym (pins_here c.args.leaves.now m j c.args.node d c.loop-j-test.true c.if-leaf-node.true) ∙ c.loop-j.invariant m d
 
@@ -21,5 +21,5 @@ loop-j-preserved c = λ m d.
 
 pub returns : goal.returns
 returns c = λ m h.
-    let d = bit c.args.own_val m in
+    let d = bit c.args.own m in
     sym (pins_end c.args.leaves.now m c.loop-j.j c.args.node d (omega arith)) ∙ c.loop-j.invariant m d

@@ -5,27 +5,27 @@ use Rattle.family.proofs.Loop.{some_leaf, fold_none, fold_start, fold_more, fold
 use Rattle.family.proofs.fold.latest.Goals as goal
 
 pub bounds-table-leaves : goal.bounds-table-leaves
-bounds-table-leaves g c = below_at (length c.args.table.now) c.args.leaves.now 0 c.requires (some_leaf _ c.if-is-empty.ensures)
+bounds-table-leaves g c = below_at (length c.args.table.now) c.args.leaves.now 0 c.requires (some_leaf _ c.if-is_empty.ensures)
 
-pub offset-bounds-table-leaves : goal.offset-bounds-table-leaves
-offset-bounds-table-leaves g c = omega (arith, below_at (length c.args.table.now) c.args.leaves.now 0 c.requires (some_leaf _ c.if-is-empty.ensures))
+pub offset_bounds-table-leaves : goal.offset_bounds-table-leaves
+offset_bounds-table-leaves g c = omega (arith, below_at (length c.args.table.now) c.args.leaves.now 0 c.requires (some_leaf _ c.if-is_empty.ensures))
 
 pub bounds-table-leaf : goal.bounds-table-leaf
 bounds-table-leaf g c = below_at (length c.args.table.now) c.args.leaves.now c.loop-leaf.leaf-index c.requires c.loop-leaf-test.true
 
-pub offset-bounds-table-leaf : goal.offset-bounds-table-leaf
-offset-bounds-table-leaf g c = omega (arith, below_at (length c.args.table.now) c.args.leaves.now c.loop-leaf.leaf-index c.requires c.loop-leaf-test.true)
+pub offset_bounds-table-leaf : goal.offset_bounds-table-leaf
+offset_bounds-table-leaf g c = omega (arith, below_at (length c.args.table.now) c.args.leaves.now c.loop-leaf.leaf-index c.requires c.loop-leaf-test.true)
 
-pub returns-then-is-empty : goal.returns-then-is-empty
-returns-then-is-empty g c =
+pub returns-then-is_empty : goal.returns-then-is_empty
+returns-then-is_empty g c =
     let F = g.F.Family.delay c.args.family.now in
-    c.start.ensures ∙ fold_none F c.args.table.now c.args.leaves.now (eqb-true _ 0 (sym c.if-is-empty.ensures))
+    c.start.ensures ∙ fold_none F c.args.table.now c.args.leaves.now (eqb-true _ 0 (sym c.if-is_empty.ensures))
 
 pub loop-leaf-init : goal.loop-leaf-init
 loop-leaf-init g c =
     let F = g.F.Family.delay c.args.family.now in
     let us = c.args.leaves.now in
-    let l = some_leaf us c.if-is-empty.ensures in
+    let l = some_leaf us c.if-is_empty.ensures in
     fold_start F c.args.table.now us c.index-table-leaves.result l (below_at (length c.args.table.now) us 0 c.requires l) c.index-table-leaves.is
 
 pub loop-leaf-preserved : goal.loop-leaf-preserved

@@ -1,10 +1,10 @@
 use Rattle.script.proofs.Verbs.{no_retie, no_map}
 use Rattle.script.proofs.parse.with_fields.Goals as goal
 
-pub returns-in-err-gate : goal.returns-in-err-gate
-returns-in-err-gate c =
-    no_retie _ _ _ c.in-Retie.is c.from-residual-in-err-gate.ensures c.in-err-gate.ensures
+pub returns-in_err-gate-in-Retie : goal.returns-in_err-gate-in-Retie
+returns-in_err-gate-in-Retie c =
+    no_retie _ _ _ c.in-Retie.is c.from_residual-in_err-gate-in-Retie.ensures c.in_err-gate-in-Retie.ensures
 
-pub returns-in-err-kind : goal.returns-in-err-kind
-returns-in-err-kind c =
-    no_map _ _ _ c.in-Map.is c.from-residual-in-err-kind.ensures c.in-err-kind.ensures
+pub returns-in_err-kind-in-Map : goal.returns-in_err-kind-in-Map
+returns-in_err-kind-in-Map c =
+    no_map _ _ _ c.in-Map.is c.from_residual-in_err-kind-in-Map.ensures c.in_err-kind-in-Map.ensures

@@ -3,4 +3,4 @@ use Rattle.cells.proofs.Laws.{lawful_empty}
 use Rattle.cells.proofs.cover.Cover.clear.Goals as goal
 
 pub invariant_of-self : goal.invariant_of-self
-invariant_of-self c = (c.args.self.now.room, ((omega arith, omega arith, omega arith), (lawful_empty, tt)))
+invariant_of-self c = record { room = c.args.self.now.room; within = (omega arith, omega arith, omega arith); law = lawful_empty }

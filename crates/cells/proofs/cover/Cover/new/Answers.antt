@@ -3,4 +3,4 @@ use Rattle.cells.proofs.Laws.{lawful_empty}
 use Rattle.cells.proofs.cover.Cover.new.Goals as goal
 
 pub invariant_of-result : goal.invariant_of-result
-invariant_of-result c = ((refl, refl, refl), ((omega arith, omega arith, omega arith), (lawful_empty, tt)))
+invariant_of-result c = record { room = (refl, refl, refl); within = (omega arith, omega arith, omega arith); law = lawful_empty }

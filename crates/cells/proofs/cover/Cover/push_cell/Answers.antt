@@ -13,17 +13,12 @@ invariant_of-self c =
     let s : Cover = c.args.self.now in
     let n = netlist_of s in
     let e = length-take-le s.cell_count s.cells (omega arith) in
-    let h : s.cell_count < length s.cells = omega arith in (
-      (s.room.0, simp length-set s.room.1, s.room.2),
-      (
-        (s.within.0, omega arith, s.within.2),
-        (
-          subst (λ (cs : List Cell). lawful_cover (netlist n.inputs cs n.outputs) ≡ true) (sym (take_more_set s.cells s.cell_count c.args.cell h))
-              (lawful_cell n c.args.cell s.law c.requires.positive (omega arith) c.requires.above c.requires.law),
-          tt,
-        ),
-      ),
-    )
+    let h : s.cell_count < length s.cells = omega arith in record {
+      room = (s.room.0, simp length-set s.room.1, s.room.2);
+      within = (s.within.0, omega arith, s.within.2);
+      law = subst (λ (cs : List Cell). lawful_cover (netlist n.inputs cs n.outputs) ≡ true) (sym (take_more_set s.cells s.cell_count c.args.cell h))
+          (lawful_cell n c.args.cell s.law c.requires.positive (omega arith) c.requires.above c.requires.law);
+    }
 
 pub returns : goal.returns
 returns c =

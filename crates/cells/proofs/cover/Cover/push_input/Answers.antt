@@ -12,17 +12,12 @@ invariant_of-self c =
     let s : Cover = c.args.self.now in
     let n = netlist_of s in
     let e = length-take-le s.input_count s.inputs (omega arith) in
-    let h : s.input_count < length s.inputs = omega arith in (
-      (simp length-set s.room.0, s.room.1, s.room.2),
-      (
-        (omega arith, s.within.1, s.within.2),
-        (
-          subst (λ (is : List ℕ). lawful_cover (netlist is n.cells n.outputs) ≡ true) (sym (take_more_set s.inputs s.input_count c.args.number h))
-              (lawful_input n c.args.number s.law c.requires.cells c.requires.outputs c.requires.positive (omega arith) c.requires.above),
-          tt,
-        ),
-      ),
-    )
+    let h : s.input_count < length s.inputs = omega arith in record {
+      room = (simp length-set s.room.0, s.room.1, s.room.2);
+      within = (omega arith, s.within.1, s.within.2);
+      law = subst (λ (is : List ℕ). lawful_cover (netlist is n.cells n.outputs) ≡ true) (sym (take_more_set s.inputs s.input_count c.args.number h))
+          (lawful_input n c.args.number s.law c.requires.cells c.requires.outputs c.requires.positive (omega arith) c.requires.above);
+    }
 
 pub returns : goal.returns
 returns c =

@@ -12,17 +12,12 @@ invariant_of-self c =
     let s : Cover = c.args.self.now in
     let n = netlist_of s in
     let e = length-take-le s.output_count s.outputs (omega arith) in
-    let h : s.output_count < length s.outputs = omega arith in (
-      (s.room.0, s.room.1, simp length-set s.room.2),
-      (
-        (s.within.0, s.within.1, omega arith),
-        (
-          subst (λ (os : List ℕ). lawful_cover (netlist n.inputs n.cells os) ≡ true) (sym (take_more_set s.outputs s.output_count c.args.literal h))
-              (lawful_output n c.args.literal s.law c.requires.law),
-          tt,
-        ),
-      ),
-    )
+    let h : s.output_count < length s.outputs = omega arith in record {
+      room = (s.room.0, s.room.1, simp length-set s.room.2);
+      within = (s.within.0, s.within.1, omega arith);
+      law = subst (λ (os : List ℕ). lawful_cover (netlist n.inputs n.cells os) ≡ true) (sym (take_more_set s.outputs s.output_count c.args.literal h))
+          (lawful_output n c.args.literal s.law c.requires.law);
+    }
 
 pub returns : goal.returns
 returns c =
