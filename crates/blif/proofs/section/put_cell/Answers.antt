@@ -7,7 +7,7 @@ pub returns : goal.returns
 returns c =
     let e = c.leaves-leaves.ensures.is in
     record {
-      wrote = wrote_then (wrote_then (wrote_then (wrote_then c.put-text-names.ensures (wrote_is c.put-nodes-root.ensures.wrote (ap node_names e))) c.put-name-end.ensures.wrote) c.put-text-lines.ensures)
-          (wrote_is c.put-table.ensures.wrote (ap (λ ls. table_lines c.args.cell.table (length ls)) e));
+      wrote = wrote_then (wrote_then (wrote_then (wrote_then c.put_text-names.ensures (wrote_is c.put_nodes-root.ensures.wrote (ap node_names e))) c.put_name-end.ensures.wrote) c.put_text-lines.ensures)
+          (wrote_is c.put_table.ensures.wrote (ap (λ ls. table_lines c.args.cell.table (length ls)) e));
       near = omega arith;
     }

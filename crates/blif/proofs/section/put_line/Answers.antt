@@ -5,6 +5,6 @@ use Rattle.blif.proofs.section.put_line.Goals as goal
 
 pub returns : goal.returns
 returns c = record {
-  wrote = wrote_is (wrote_then c.put-digits-next.ensures.wrote c.put-text-2.ensures) (sym (cond-false (eqb c.args.count 0) _ _ (ne_eqb c.args.count 0 c.if-count-eq0.false)));
+  wrote = wrote_is (wrote_then c.put_digits-next.ensures.wrote c.put_text-2.ensures) (sym (cond-false (eqb c.args.count 0) _ _ (ne_eqb c.args.count 0 c.if-count-eq0.false)));
   near = omega arith;
 }

@@ -7,7 +7,7 @@ use Rattle.blif.proofs.section.put_nodes.Goals as goal
 
 pub loop-node-preserved : goal.loop-node-preserved
 loop-node-preserved c = (
-  wrote_is (wrote_then c.loop-node.invariant.0 c.put-name-next.ensures.wrote) (node_names_more c.args.nodes.now c.loop-node.node-index (omega arith)),
+  wrote_is (wrote_then c.loop-node.invariant.0 c.put_name-next.ensures.wrote) (node_names_more c.args.nodes.now c.loop-node.node-index (omega arith)),
   omega arith,
 )
 

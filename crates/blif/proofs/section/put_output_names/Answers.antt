@@ -5,4 +5,4 @@ use Rattle.blif.proofs.section.put_output_names.Goals as goal
 
 pub loop-k-preserved : goal.loop-k-preserved
 loop-k-preserved c =
-    (wrote_is (wrote_then c.loop-k.invariant.0 c.put-name-next.ensures.wrote) (output_names_more c.loop-k.k), omega arith)
+    (wrote_is (wrote_then c.loop-k.invariant.0 c.put_name-next.ensures.wrote) (output_names_more c.loop-k.k), omega arith)

@@ -14,8 +14,8 @@ use Rattle.blif.proofs.Wrote.{wrote_is}
 use Rattle.blif.proofs.Texts.{section_count_lem, section_cell, section_output, section_end}
 use Rattle.blif.proofs.section.put_section.Goals as goal
 
-pub put-output-requires : goal.put-output-requires
-put-output-requires c =
+pub put_output-requires : goal.put_output-requires
+put_output-requires c =
     let s : Cover = c.args.cover.now in
     let k = c.args.section - 1 - length c.cells-cells.result.now in
     let there = ap (every (λ l. ltb (node_of l) most_nodes)) c.outputs-outputs.ensures ∙ cover_outputs (netlist_of s) s.law in
@@ -33,7 +33,7 @@ returns-then-section-cells c =
     let e = c.cells-cells.ensures in
     let l = ap length e in
     let d : Cell = record { root = 0; count = 0; leaves = []; table = 0 } in
-    wrote_is c.put-cell.ensures.wrote (ap (λ cs. cell_text (get_or cs (i - 1) d)) e ∙ sym (section_cell n i d (omega arith) (omega arith)))
+    wrote_is c.put_cell.ensures.wrote (ap (λ cs. cell_text (get_or cs (i - 1) d)) e ∙ sym (section_cell n i d (omega arith) (omega arith)))
 
 pub returns-then-k-outputs : goal.returns-then-k-outputs
 returns-then-k-outputs c =
@@ -43,7 +43,7 @@ returns-then-k-outputs c =
     let e = c.outputs-outputs.ensures in
     let lc = ap length c.cells-cells.ensures in
     let lo = ap length e in
-    wrote_is c.put-output.ensures.wrote (ap (λ os. output_text k (get_or os k 0)) e ∙ sym (section_output n i k (omega arith) (omega arith) (omega arith)))
+    wrote_is c.put_output.ensures.wrote (ap (λ os. output_text k (get_or os k 0)) e ∙ sym (section_output n i k (omega arith) (omega arith) (omega arith)))
 
 pub returns : goal.returns
 returns c =
@@ -52,4 +52,4 @@ returns c =
     let lo = ap length c.outputs-outputs.ensures in
     let count = section_count_lem n in
     let below = c.requires in
-    wrote_is c.put-text.ensures (sym (section_end n c.args.section (omega arith)))
+    wrote_is c.put_text.ensures (sym (section_end n c.args.section (omega arith)))

@@ -10,11 +10,11 @@ use Rattle.blif.proofs.Texts.{lines_to, lines_with, lines_without}
 use Rattle.blif.proofs.section.put_table.Goals as goal
 use Rattle.blif.proofs.section.put_table.Goals.{then-table-m-eq1, else-table-m-eq1}
 
-pub overflow-shr-table : goal.overflow-shr-table
-overflow-shr-table c = row_below _ _ most_leaves c.requires.few (omega arith) c.loop-m-test.true
+pub overflow_shr-table : goal.overflow_shr-table
+overflow_shr-table c = row_below _ _ most_leaves c.requires.few (omega arith) c.loop-m-test.true
 
-pub put-line-next-requires : goal.put-line-next-requires
-put-line-next-requires c =
+pub put_line-next-requires : goal.put_line-next-requires
+put_line-next-requires c =
     let h : c.loop-m.m < table_bits = row_below _ _ most_leaves c.requires.few (omega arith) c.loop-m-test.true in
     record { room = omega arith; few = c.requires.few }
 
@@ -26,8 +26,8 @@ loop-m-preserved c =
     let e = and_mask (t / 2 ^ m) 1 in
     elim c.if-table-m-eq1.branch [
       | then-table-m-eq1 w ↦ (
-        wrote_at (wrote_is (wrote_then c.loop-m.invariant.0 w.put-line-next.ensures.wrote) (lines_with t n m (sym e ∙ w.if-table-m-eq1.true))) w.out-is w.next-is,
-        omega (arith, w.next-is, w.put-line-next.ensures.near),
+        wrote_at (wrote_is (wrote_then c.loop-m.invariant.0 w.put_line-next.ensures.wrote) (lines_with t n m (sym e ∙ w.if-table-m-eq1.true))) w.out-is w.next-is,
+        omega (arith, w.next-is, w.put_line-next.ensures.near),
       )
       | else-table-m-eq1 w ↦ (
         wrote_at (wrote_is c.loop-m.invariant.0 (lines_without t n m (ne_eqb (bit t m) 1 (λ h. w.if-table-m-eq1.false (e ∙ h))))) w.out-is w.next-is,

@@ -12,13 +12,13 @@ returns c =
     let i = c.args.section in
     let out = c.args.out.now in
     let text = section_text n i in
-    let r : c.put-section.result ≡ length text = c.put-section.ensures.next ∙ zero-add (length text) in
-    let l : c.put-section-length.result ≡ length text = c.put-section-length.ensures.next ∙ zero-add (length text) in
+    let r : c.put_section.result ≡ length text = c.put_section.ensures.next ∙ zero-add (length text) in
+    let l : c.put_section-length.result ≡ length text = c.put_section-length.ensures.next ∙ zero-add (length text) in
     let h : length text ≤ length out = omega arith in
     let below : i < section_count n = subst (λ (x : ℕ). i < x) c.sections.ensures.count c.if-section-sections.false in
     let a : section_answer n i out ≡ Ok (length text) =
     cond-true (ltb i (section_count n)) _ _ (lt-ltb i (section_count n) below) ∙ cond-true (leb (length text) (length out)) _ _ (le-leb (length text) (length out) h) in
     record {
       answer = ap Ok r ∙ sym a;
-      buffer = c.put-section.ensures.holds ∙ over_start out text h ∙ sym (cond-true (is_ok (section_answer n i out)) _ _ (ap is_ok a));
+      buffer = c.put_section.ensures.holds ∙ over_start out text h ∙ sym (cond-true (is_ok (section_answer n i out)) _ _ (ap is_ok a));
     }
