@@ -47,14 +47,14 @@ stays_output d e os true is = rw is (stays_same d.nodes)
 stays_output d e os false is = rw is (stays_same d.nodes)
 
 -- the laws of a job hold with another table, in which each gate stays
-pub job_stays : (j : Job) (t : Table) → Stays (drawing_of j.table).nodes (drawing_of t).nodes → (is_width j.width ≡ true) × (((v : ℕ) → get_or (held_of j.lists) v false ≡ true → is_gate (at (drawing_of t).nodes v) ≡ true) × (((v : ℕ) → get_or (held_of j.lists) v false ≡ true → (s : List ℕ) → elem s (sets_of (row_of j.lists v)) ≡ elem s (least_cuts (drawing_of t).nodes j.width v)) × (((v : ℕ) → get_or (held_of j.lists) v false ≡ true → length (row_of j.lists v) ≡ length (least_cuts (drawing_of t).nodes j.width v)) × Unit {0})))
+pub job_stays : (j : Job) (t : Table) → Stays (drawing_of j.table).nodes (drawing_of t).nodes → (is_width j.width ≡ true) × (((v : ℕ) → get_or (held_of j.lists) v false ≡ true → is_gate (at (drawing_of t).nodes v) ≡ true) × (((v : ℕ) → get_or (held_of j.lists) v false ≡ true → (s : List ℕ) → elem s (sets_of (row_of j.lists v)) ≡ elem s (least_cuts (drawing_of t).nodes j.width v)) × (((v : ℕ) → get_or (held_of j.lists) v false ≡ true → length (row_of j.lists v) ≡ length (least_cuts (drawing_of t).nodes j.width v)))))
 job_stays j t stays = (
   j.part,
   (
     (λ v h. (stays v j.width (j.gates v h)).0),
     (
       (λ v h s. j.listed v h s ∙ ap (elem s) (stays v j.width (j.gates v h)).1),
-      ((λ v h. j.counted v h ∙ ap length (stays v j.width (j.gates v h)).1), tt),
+      (λ v h. j.counted v h ∙ ap length (stays v j.width (j.gates v h)).1),
     ),
   ),
 )

@@ -10,8 +10,8 @@ use Rattle.cells.specs.Laws.{names_of, output_lawful}
 use Rattle.covering.proofs.Filled.{marked_rival, rival_bare, outputs_right, filled_is, filled_count}
 use Rattle.covering.proofs.fill.fill.Goals as goal
 
-pub reached-by-marks-requires : goal.reached-by-marks-requires
-reached-by-marks-requires g c =
+pub reached_by-marks-requires : goal.reached_by-marks-requires
+reached_by-marks-requires g c =
     let F = g.F.Family.delay c.args.family.now in
     let L = g.met.F.Family.lawful c.args.family.now in
     record {
@@ -20,13 +20,13 @@ reached-by-marks-requires g c =
       under = chosen_under F L c.args.nodes.now c.args.outputs.now c.requires.law c.args.width c.requires.wide.0 (sets_of c.args.cuts.now) c.requires.taken;
     }
 
-pub put-inputs-requires : goal.put-inputs-requires
-put-inputs-requires g c =
+pub put_inputs-requires : goal.put_inputs-requires
+put_inputs-requires g c =
     let w = lawful_says c.args.nodes.now c.args.outputs.now c.requires.law in
     record { right = w.nodes_sound; few = w.nodes_few; bare = search rules }
 
-pub put-cells-requires : goal.put-cells-requires
-put-cells-requires g c =
+pub put_cells-requires : goal.put_cells-requires
+put_cells-requires g c =
     let F = g.F.Family.delay c.args.family.now in
     let L = g.met.F.Family.lawful c.args.family.now in
     let nodes = c.args.nodes.now in
@@ -36,20 +36,20 @@ put-cells-requires g c =
       right = w.nodes_sound;
       few = w.nodes_few;
       each = (c.requires.each, omega (arith, w.nodes_few));
-      stands = rival_bare nodes outs c.args.width most_leaves _ _ c.requires.wide.1 (marked_rival F L nodes outs c.requires.law c.args.width c.requires.wide.0 (sets_of c.args.cuts.now) c.requires.taken c.reached-by-marks.result c.reached-by-marks.ensures);
-      bare = c.put-inputs.ensures;
+      stands = rival_bare nodes outs c.args.width most_leaves _ _ c.requires.wide.1 (marked_rival F L nodes outs c.requires.law c.args.width c.requires.wide.0 (sets_of c.args.cuts.now) c.requires.taken c.reached_by-marks.result c.reached_by-marks.ensures);
+      bare = c.put_inputs.ensures;
     }
 
-pub put-outputs-requires : goal.put-outputs-requires
-put-outputs-requires g c =
+pub put_outputs-requires : goal.put_outputs-requires
+put_outputs-requires g c =
     let F = g.F.Family.delay c.args.family.now in
     let L = g.met.F.Family.lawful c.args.family.now in
     let nodes = c.args.nodes.now in
     let outs = c.args.outputs.now in
     record {
       few = (lawful_says nodes outs c.requires.law).outputs_few;
-      bare = ap (λ (n : Netlist). n.outputs) c.put-cells.ensures;
-      named = subst (λ (n : Netlist). every (output_lawful (names_of n)) outs ≡ true) (sym c.put-cells.ensures) (outputs_right F L nodes outs c.requires.law c.args.width c.requires.wide.0 (sets_of c.args.cuts.now) c.requires.taken c.reached-by-marks.result c.reached-by-marks.ensures c.requires.wide.1);
+      bare = ap (λ (n : Netlist). n.outputs) c.put_cells.ensures;
+      named = subst (λ (n : Netlist). every (output_lawful (names_of n)) outs ≡ true) (sym c.put_cells.ensures) (outputs_right F L nodes outs c.requires.law c.args.width c.requires.wide.0 (sets_of c.args.cuts.now) c.requires.taken c.reached_by-marks.result c.reached_by-marks.ensures c.requires.wide.1);
     }
 
 pub returns : goal.returns
@@ -58,9 +58,9 @@ returns g c =
     let L = g.met.F.Family.lawful c.args.family.now in
     let nodes = c.args.nodes.now in
     let outs = c.args.outputs.now in
-    let m = netlist_of c.put-cells.new.cover in
-    let n = netlist_of c.put-outputs.new.cover in
+    let m = netlist_of c.put_cells.new.cover in
+    let n = netlist_of c.put_outputs.new.cover in
     record {
-      netlist = filled_is F L nodes outs c.requires.law c.args.width c.requires.wide.0 (sets_of c.args.cuts.now) c.requires.taken c.reached-by-marks.result c.reached-by-marks.ensures m n c.put-cells.ensures c.put-outputs.ensures;
-      count = ap length c.cells.ensures ∙ filled_count F L nodes outs c.requires.law c.args.width c.requires.wide.0 (sets_of c.args.cuts.now) c.requires.taken c.reached-by-marks.result c.reached-by-marks.ensures m n c.put-cells.ensures c.put-outputs.ensures;
+      netlist = filled_is F L nodes outs c.requires.law c.args.width c.requires.wide.0 (sets_of c.args.cuts.now) c.requires.taken c.reached_by-marks.result c.reached_by-marks.ensures m n c.put_cells.ensures c.put_outputs.ensures;
+      count = ap length c.cells.ensures ∙ filled_count F L nodes outs c.requires.law c.args.width c.requires.wide.0 (sets_of c.args.cuts.now) c.requires.taken c.reached_by-marks.result c.reached_by-marks.ensures m n c.put_cells.ensures c.put_outputs.ensures;
     }

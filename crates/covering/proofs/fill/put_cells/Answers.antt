@@ -11,10 +11,10 @@ use Rattle.covering.specs.Chosen.{cover_up_to, marked_gate, set_at}
 use Rattle.covering.proofs.RivalCover.{piece_positive, piece_above, piece_fresh, piece_few, piece_rising, piece_known, piece_room, upto_more, upto_skip}
 use Rattle.covering.proofs.Passes.{stored_at}
 use Rattle.covering.proofs.fill.put_cells.Goals as goal
-use Rattle.covering.proofs.fill.put_cells.Goals.{then-is-gate+then-marks-v, else-is-gate, else-is-gate-via-then-is-gate+else-marks-v, else-is-gate-via-else-is-gate}
+use Rattle.covering.proofs.fill.put_cells.Goals.{then-is_gate+then-marks-v, else-is_gate, else-is_gate-via-then-is_gate+else-marks-v, else-is_gate-via-else-is_gate}
 
-pub push-gate-requires : goal.push-gate-requires
-push-gate-requires c =
+pub push_gate-requires : goal.push_gate-requires
+push_gate-requires c =
     let nodes = c.args.nodes.now in
     let picked = marked_gate nodes c.args.marks.now in
     let given = set_at (sets_of c.args.cuts.now) in
@@ -22,7 +22,7 @@ push-gate-requires c =
     let right = c.requires.right in
     let few = le_refl most_leaves in
     let R = c.requires.stands in
-    let here = and_from _ _ (sym c.if-is-gate.ensures) c.if-marks-v.true in
+    let here = and_from _ _ (sym c.if-is_gate.ensures) c.if-marks-v.true in
     let e = sym c.loop-v.invariant in
     let ls = sym (c.leaves.ensures ∙ stored_at leaves_of c.args.cuts.now v c.index-cuts-v.result (omega arith) c.index-cuts-v.is) in
     record {
@@ -43,18 +43,18 @@ loop-v-preserved c =
     let picked = marked_gate nodes c.args.marks.now in
     let given = set_at (sets_of c.args.cuts.now) in
     let v = c.loop-v.v in
-    elim c.if-is-gate.branch [
-      | then-is-gate+then-marks-v w ↦
+    elim c.if-is_gate.branch [
+      | then-is_gate+then-marks-v w ↦
           let ls = w.leaves.ensures ∙ stored_at leaves_of c.args.cuts.now v w.index-cuts-v.result (omega arith) w.index-cuts-v.is in
-          ap netlist_of w.cover-is ∙ w.push-gate.ensures ∙ ap (λ n. with_cell n (cell_of nodes v w.leaves.result.now)) c.loop-v.invariant
+          ap netlist_of w.cover-is ∙ w.push_gate.ensures ∙ ap (λ n. with_cell n (cell_of nodes v w.leaves.result.now)) c.loop-v.invariant
           ∙ ap (λ s. with_cell (cover_up_to nodes picked given v) (cell_of nodes v s)) ls
-          ∙ sym (upto_more nodes picked given v (and_from _ _ (sym w.if-is-gate.ensures) w.if-marks-v.true))
-      | else-is-gate w ↦
+          ∙ sym (upto_more nodes picked given v (and_from _ _ (sym w.if-is_gate.ensures) w.if-marks-v.true))
+      | else-is_gate w ↦
           ap netlist_of w.cover-is ∙ c.loop-v.invariant
           ∙ sym (upto_skip nodes picked given v
-          (elim w.else-is-gate.branch [
-            | else-is-gate-via-then-is-gate+else-marks-v x ↦ and_right _ _ x.if-marks-v.false
-            | else-is-gate-via-else-is-gate x ↦ and_left _ _ (sym x.if-is-gate.ensures)
+          (elim w.else-is_gate.branch [
+            | else-is_gate-via-then-is_gate+else-marks-v x ↦ and_right _ _ x.if-marks-v.false
+            | else-is_gate-via-else-is_gate x ↦ and_left _ _ (sym x.if-is_gate.ensures)
           ]))
     ]
 

@@ -7,14 +7,14 @@ use Rattle.cells.specs.Netlists.{netlist_of}
 use Rattle.cells.specs.Netlist.{Netlist, netlist, with_input}
 use Rattle.covering.proofs.Passes.{inputs_more, inputs_skip, input_above, input_positive, input_room}
 use Rattle.covering.proofs.fill.put_inputs.Goals as goal
-use Rattle.covering.proofs.fill.put_inputs.Goals.{then-is-input, else-is-input}
+use Rattle.covering.proofs.fill.put_inputs.Goals.{then-is_input, else-is_input}
 
-pub push-input-requires : goal.push-input-requires
-push-input-requires c =
+pub push_input-requires : goal.push_input-requires
+push_input-requires c =
     let nodes = c.args.nodes.now in
     let v = c.loop-number.number in
     let l = c.loop-number-test.true in
-    let is = sym c.if-is-input.ensures in
+    let is = sym c.if-is_input.ensures in
     let e = sym c.loop-number.invariant in
     record {
       room = subst (λ (n : Netlist). length n.inputs < most_inputs) e (omega (arith, input_room nodes v l c.requires.right is));
@@ -29,10 +29,10 @@ loop-number-preserved c =
     let nodes = c.args.nodes.now in
     let v = c.loop-number.number in
     let l = c.loop-number-test.true in
-    elim c.if-is-input.branch [
-      | then-is-input w ↦ ap netlist_of w.cover-is ∙ w.push-input.ensures ∙ ap (λ n. with_input n v) c.loop-number.invariant
-          ∙ ap (λ is. netlist is [] []) (inputs_more nodes v l (sym w.if-is-input.ensures))
-      | else-is-input w ↦ ap netlist_of w.cover-is ∙ c.loop-number.invariant ∙ ap (λ is. netlist is [] []) (inputs_skip nodes v l (sym w.if-is-input.ensures))
+    elim c.if-is_input.branch [
+      | then-is_input w ↦ ap netlist_of w.cover-is ∙ w.push_input.ensures ∙ ap (λ n. with_input n v) c.loop-number.invariant
+          ∙ ap (λ is. netlist is [] []) (inputs_more nodes v l (sym w.if-is_input.ensures))
+      | else-is_input w ↦ ap netlist_of w.cover-is ∙ c.loop-number.invariant ∙ ap (λ is. netlist is [] []) (inputs_skip nodes v l (sym w.if-is_input.ensures))
     ]
 
 pub returns : goal.returns

@@ -7,8 +7,8 @@ use Rattle.cells.specs.Netlists.{netlist_of}
 use Rattle.cells.specs.Laws.{names_of, output_lawful}
 use Rattle.covering.proofs.fill.put_outputs.Goals as goal
 
-pub push-output-requires : goal.push-output-requires
-push-output-requires c =
+pub push_output-requires : goal.push_output-requires
+push_output-requires c =
     let outs = c.args.outputs.now in
     let i = c.loop-output.output-index in
     let e = sym c.loop-output.invariant in
@@ -25,7 +25,7 @@ loop-output-preserved c =
     let n = netlist_of c.args.cover.now in
     let outs = c.args.outputs.now in
     let i = c.loop-output.output-index in
-    c.push-output.ensures ∙ ap (λ m. with_output m (get_or outs i 0)) c.loop-output.invariant
+    c.push_output.ensures ∙ ap (λ m. with_output m (get_or outs i 0)) c.loop-output.invariant
     ∙ ap (netlist n.inputs n.cells) (sym (take_more outs i 0 c.loop-output-test.true))
 
 pub returns : goal.returns

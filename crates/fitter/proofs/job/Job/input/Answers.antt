@@ -12,7 +12,7 @@ invariant_of-self c =
     let j = c.args.self.now in
     let t = c.input.new.self in
     let s = stays_node (drawing_of j.table) (drawing_of t) Input (is_ok (input_answer (drawing_of j.table))) c.input.ensures.after j.table.law t.law in
-    job_stays j t s
+    let all = job_stays j t s in record { part = all.0; gates = all.1.0; listed = all.1.1.0; counted = all.1.1.1 }
 
 pub returns : goal.returns
 returns c =

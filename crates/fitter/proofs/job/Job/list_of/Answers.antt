@@ -9,18 +9,18 @@ bounds c = gate_inside c.args.self.now c.args.v c.requires.gate c.requires.fanin
 pub bounds-nodes-v : goal.bounds-nodes-v
 bounds-nodes-v c = gate_inside c.args.self.now c.args.v c.requires.gate c.requires.fanins c.nodes-nodes.result.now c.nodes-nodes.ensures
 
-pub overflow-cast-pair : goal.overflow-cast-pair
-overflow-cast-pair c =
+pub overflow_cast-pair : goal.overflow_cast-pair
+overflow_cast-pair c =
     let h : c.in-Gate.pair.left / 2 < 256 = left_small c.args.self.now c.args.v c.requires.gate c.requires.fanins c.nodes-nodes.result.now c.nodes-nodes.ensures c.in-Gate.pair c.in-Gate.is in
     search rules
 
-pub overflow-cast-pair-2 : goal.overflow-cast-pair-2
-overflow-cast-pair-2 c =
+pub overflow_cast-pair-2 : goal.overflow_cast-pair-2
+overflow_cast-pair-2 c =
     let h : c.in-Gate.pair.right / 2 < 256 = right_small c.args.self.now c.args.v c.requires.gate c.requires.fanins c.nodes-nodes.result.now c.nodes-nodes.ensures c.in-Gate.pair c.in-Gate.is in
     search rules
 
-pub make-list-requires : goal.make-list-requires
-make-list-requires c =
+pub make_list-requires : goal.make_list-requires
+make_list-requires c =
     let j = c.args.self.now in
     let ns = c.nodes-nodes.result.now in
     let is = c.nodes-nodes.ensures in

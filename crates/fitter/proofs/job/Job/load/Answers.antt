@@ -9,15 +9,12 @@ use Rattle.fitter.proofs.job.Job.load.Goals as goal
 
 pub invariant_of-self : goal.invariant_of-self
 invariant_of-self c =
-    let none = nothing_kept _ most_nodes c.clear.ensures in (
-      c.args.self.now.part,
-      ((λ v h. absurd (none v h)), ((λ v h s. absurd (none v h)), ((λ v h. absurd (none v h)), tt))),
-    )
+    let none = nothing_kept _ most_nodes c.clear.ensures in record { part = c.args.self.now.part; gates = (λ v h. absurd (none v h)); listed = (λ v h s. absurd (none v h)); counted = (λ v h. absurd (none v h)) }
 
 pub returns : goal.returns
 returns c =
     let j = c.args.self.now in
-    let r = c.in-ok-table.ensures.reads in
+    let r = c.in_ok-table.ensures.reads in
     record {
       answer = sym (ap loaded r);
       did = record {

@@ -11,17 +11,8 @@ invariant_of-self c =
     let k = c.keep.new.self in
     let m = c.in-Some.ensures.1 in
     let e = c.keep.ensures in
-    let list = take c.in-Some.n c.list-of.new.rows in
-    let row : row_of k c.args.v ≡ list = e.row ∙ ap (λ (z : ℕ). take z c.list-of.new.rows) (sub-zero c.in-Some.n) in (
-      j.part,
-      (
-        keep_gates j k c.args.v list c.requires.gate m e.held row e.others,
-        (
-          keep_listed j k c.args.v list c.requires.gate m e.held row e.others,
-          (keep_counted j k c.args.v list c.requires.gate m e.held row e.others, tt),
-        ),
-      ),
-    )
+    let list = take c.in-Some.n c.list_of.new.rows in
+    let row : row_of k c.args.v ≡ list = e.row ∙ ap (λ (z : ℕ). take z c.list_of.new.rows) (sub-zero c.in-Some.n) in record { part = j.part; gates = keep_gates j k c.args.v list c.requires.gate m e.held row e.others; listed = keep_listed j k c.args.v list c.requires.gate m e.held row e.others; counted = keep_counted j k c.args.v list c.requires.gate m e.held row e.others }
 
 pub returns-in-Some : goal.returns-in-Some
 returns-in-Some c =

@@ -10,8 +10,8 @@ use Rattle.fitter.proofs.job.Job.make_lists.Goals.{then-branch, else-branch}
 pub loop-v-init : goal.loop-v-init
 loop-v-init c = progress_start c.args.self.now
 
-pub make-needed-requires : goal.make-needed-requires
-make-needed-requires c =
+pub make_needed-requires : goal.make_needed-requires
+make_needed-requires c =
     let i = c.args.self.now in
     let l = c.loop-v in
     let in-range : l.v < length (book_of i).drawing.nodes = subst (λ z. l.v < length z) c.nodes-v-end.ensures c.loop-v-test.true in
@@ -21,8 +21,8 @@ make-needed-requires c =
       below = progress_below i l.self l.v l.made l.invariant;
     }
 
-pub overflow-add-made : goal.overflow-add-made
-overflow-add-made c =
+pub overflow_add-made : goal.overflow_add-made
+overflow_add-made c =
     let i = c.args.self.now in
     let l = c.loop-v in
     let a : l.made ≤ l.v = omega (arith, l.invariant.made, made_small (book_of i) (is_kept i) l.v) in
@@ -34,21 +34,21 @@ overflow-add-made c =
 pub loop-v-preserved : goal.loop-v-preserved
 loop-v-preserved c =
     let l = c.loop-v in
-    let new = c.in-ok-make-needed.field-0 in
+    let new = c.in_ok-make_needed.field-0 in
     let m : c.if-branch.made ≡ l.made + cond new 1 0 =
     elim c.if-branch.branch [
       | then-branch w ↦ w.made-is ∙ sym (ap (λ z. l.made + cond z 1 0) w.if-branch.true)
       | else-branch w ↦ w.made-is ∙ sym (ap (λ z. l.made + cond z 1 0) w.if-branch.false ∙ add-zero l.made)
     ] in
-    progress_step c.args.self.now l.self c.make-needed.new.self l.v l.made _ new l.invariant c.in-ok-make-needed.ensures m
+    progress_step c.args.self.now l.self c.make_needed.new.self l.v l.made _ new l.invariant c.in_ok-make_needed.ensures m
 
-pub returns-in-err-make-needed : goal.returns-in-err-make-needed
-returns-in-err-make-needed c =
+pub returns-in_err-make_needed : goal.returns-in_err-make_needed
+returns-in_err-make_needed c =
     let l = c.loop-v in
-    let p = err_from_is_err_and c.from-residual.result c.from-residual.ensures.1 in
-    let e = c.in-err-make-needed.field-0.0 in
-    let stop = progress_crowded c.args.self.now l.self c.make-needed.new.self l.v l.made e l.invariant c.in-err-make-needed.ensures in
-    subst (λ r. MakingAll c.args.self.now r c.make-needed.new.self) (sym (p.1 ∙ ap Err p.2)) stop
+    let p = err_from_is_err_and c.from_residual.result c.from_residual.ensures.1 in
+    let e = c.in_err-make_needed.field-0.0 in
+    let stop = progress_crowded c.args.self.now l.self c.make_needed.new.self l.v l.made e l.invariant c.in_err-make_needed.ensures in
+    subst (λ r. MakingAll c.args.self.now r c.make_needed.new.self) (sym (p.1 ∙ ap Err p.2)) stop
 
 pub returns : goal.returns
 returns c =

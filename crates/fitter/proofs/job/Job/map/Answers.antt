@@ -35,35 +35,35 @@ returns-then-arrivals-nodes g c =
     let m : Mapped F i cover table (Err TooShort) i cover table = (sym c.width.ensures ∙ c.if-width-self.false, short, refl, record { same_cover = refl; same_table = refl }) in
     record { mapped = m; did = mapped_did F L i i cover cover table table (Err TooShort) m; law = mapped_answers F L i i cover cover table table (Err TooShort) m }
 
-pub returns-in-err-made : goal.returns-in-err-made
-returns-in-err-made g c =
+pub returns-in_err-made : goal.returns-in_err-made
+returns-in_err-made g c =
     let F = g.F.Family.delay c.args.family.now in
     let L = g.met.F.Family.lawful c.args.family.now in
     let i = c.args.self.now in
-    let j = c.make-lists.new.self in
+    let j = c.make_lists.new.self in
     let cover = c.args.cover.now in
     let table = c.args.arrivals.now in
-    let r = c.from-residual.result in
-    let p = err_from_is_err_and c.from-residual.result c.from-residual.ensures.1 in
+    let r = c.from_residual.result in
+    let p = err_from_is_err_and c.from_residual.result c.from_residual.ensures.1 in
     let room : size (book_of i) ≤ length table = omega (arith, ap length c.nodes.ensures, c.if-arrivals-nodes.false) in
-    let stop = map_stopped F i j cover table c.in-err-made.field-0.0 (sym c.width.ensures ∙ c.if-width-self.false) room c.in-err-made.ensures in
+    let stop = map_stopped F i j cover table c.in_err-made.field-0.0 (sym c.width.ensures ∙ c.if-width-self.false) room c.in_err-made.ensures in
     let m : Mapped F i cover table r j cover table = subst (λ z. Mapped F i cover table z j cover table) (sym (p.1 ∙ ap Err p.2)) stop in
     record { mapped = m; did = mapped_did F L i j cover cover table table r m; law = mapped_answers F L i j cover cover table table r m }
 
-pub take-cuts-cuts-requires : goal.take-cuts-cuts-requires
-take-cuts-cuts-requires g c =
+pub take_cuts-cuts-requires : goal.take_cuts-cuts-requires
+take_cuts-cuts-requires g c =
     let i = c.args.self.now in
-    let j = c.make-lists.new.self in
-    let r = c.in-ok-made.ensures in
+    let j = c.make_lists.new.self in
+    let r = c.in_ok-made.ensures in
     let marks = c.reached-marks.result in
     let room : size (book_of i) ≤ length c.args.arrivals.now = omega (arith, ap length c.nodes.ensures, c.if-arrivals-nodes.false) in
     let marked : MarksNeeded (book_of i).drawing marks =
     subst (λ (ns : List Node). MarksNeeded (drawing ns (book_of i).drawing.outputs) marks) c.nodes-2.ensures
     (subst (λ (os : List ℕ). MarksNeeded (drawing c.nodes-2.result.now os) marks) c.outputs.ensures c.reached-marks.ensures) in
     record {
-      marked = ready_marked i j c.in-ok-made.made r marks marked;
-      lists = ready_kept i j c.in-ok-made.made r;
-      room = ready_room i j c.in-ok-made.made r (length c.args.arrivals.now) room;
+      marked = ready_marked i j c.in_ok-made.made r marks marked;
+      lists = ready_kept i j c.in_ok-made.made r;
+      room = ready_room i j c.in_ok-made.made r (length c.args.arrivals.now) room;
     }
 
 pub returns : goal.returns
@@ -71,11 +71,11 @@ returns g c =
     let F = g.F.Family.delay c.args.family.now in
     let L = g.met.F.Family.lawful c.args.family.now in
     let i = c.args.self.now in
-    let j = c.make-lists.new.self in
+    let j = c.make_lists.new.self in
     let table = c.args.arrivals.now in
-    let made = c.in-ok-made.made in
+    let made = c.in_ok-made.made in
     let cells = c.fill-cells.result in
-    let r = c.in-ok-made.ensures in
+    let r = c.in_ok-made.ensures in
     let room : size (book_of i) ≤ length table = omega (arith, ap length c.nodes.ensures, c.if-arrivals-nodes.false) in
     let ns = c.nodes-3.ensures in
     let os = c.outputs-2.ensures in
@@ -83,9 +83,9 @@ returns g c =
     c.fill-cells.ensures.netlist ∙ ap (λ (z : List Node). chosen F (drawing z c.outputs-2.result.now) j.width) ns ∙ ap (λ (z : List ℕ). chosen F (drawing (book_of j).drawing.nodes z) j.width) os in
     let counted : cells ≡ length (chosenCells F (book_of j).drawing.nodes j.width (book_of j).drawing.outputs) =
     c.fill-cells.ensures.count ∙ ap (λ (z : List Node). length (chosenCells F z j.width c.outputs-2.result.now)) ns ∙ ap (λ (z : List ℕ). length (chosenCells F (book_of j).drawing.nodes j.width z)) os in
-    let m = map_accepted F i j table c.take-cuts-cuts.new.table cells made (netlist_of c.fill-cells.new.cover) (sym c.width.ensures ∙ c.if-width-self.false) room r covered counted c.take-cuts-cuts.ensures.arrivals in
+    let m = map_accepted F i j table c.take_cuts-cuts.new.table cells made (netlist_of c.fill-cells.new.cover) (sym c.width.ensures ∙ c.if-width-self.false) room r covered counted c.take_cuts-cuts.ensures.arrivals in
     record {
       mapped = m;
-      did = mapped_did F L i j c.args.cover.now c.fill-cells.new.cover table c.take-cuts-cuts.new.table (Ok (cells, made)) m;
-      law = mapped_answers F L i j c.args.cover.now c.fill-cells.new.cover table c.take-cuts-cuts.new.table (Ok (cells, made)) m;
+      did = mapped_did F L i j c.args.cover.now c.fill-cells.new.cover table c.take_cuts-cuts.new.table (Ok (cells, made)) m;
+      law = mapped_answers F L i j c.args.cover.now c.fill-cells.new.cover table c.take_cuts-cuts.new.table (Ok (cells, made)) m;
     }

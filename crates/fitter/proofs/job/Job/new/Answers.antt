@@ -6,4 +6,4 @@ use Rattle.fitter.proofs.job.Job.new.Goals as goal
 pub invariant_of-result : goal.invariant_of-result
 invariant_of-result c =
     let none = nothing_kept _ most_nodes c.new-2.ensures in
-    (refl, ((λ v h. absurd (none v h)), ((λ v h s. absurd (none v h)), ((λ v h. absurd (none v h)), tt))))
+    record { part = refl; gates = (λ v h. absurd (none v h)); listed = (λ v h s. absurd (none v h)); counted = (λ v h. absurd (none v h)) }

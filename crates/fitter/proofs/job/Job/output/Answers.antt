@@ -11,7 +11,7 @@ invariant_of-self c =
     let j = c.args.self.now in
     let t = c.output.new.self in
     let s = stays_output (drawing_of j.table) (drawing_of t) ((drawing_of j.table).outputs ++ c.args.literal ∷ []) (is_ok (output_answer (drawing_of j.table) c.args.literal)) c.output.ensures.after in
-    job_stays j t s
+    let all = job_stays j t s in record { part = all.0; gates = all.1.0; listed = all.1.1.0; counted = all.1.1.1 }
 
 pub returns : goal.returns
 returns c =

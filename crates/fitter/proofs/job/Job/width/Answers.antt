@@ -9,10 +9,7 @@ use Rattle.fitter.proofs.job.Job.width.Goals as goal
 
 pub invariant_of-self : goal.invariant_of-self
 invariant_of-self c =
-    let none = nothing_kept _ most_nodes c.clear.ensures in (
-      and_from _ _ (le-leb 2 c.args.width (omega arith)) (le-leb c.args.width 5 (omega arith)),
-      ((λ v h. absurd (none v h)), ((λ v h s. absurd (none v h)), ((λ v h. absurd (none v h)), tt))),
-    )
+    let none = nothing_kept _ most_nodes c.clear.ensures in record { part = and_from _ _ (le-leb 2 c.args.width (omega arith)) (le-leb c.args.width 5 (omega arith)); gates = (λ v h. absurd (none v h)); listed = (λ v h s. absurd (none v h)); counted = (λ v h. absurd (none v h)) }
 
 pub returns-then-width-self : goal.returns-then-width-self
 returns-then-width-self c =

@@ -7,7 +7,7 @@ use Rattle.fitter.proofs.kept.Kept.keep.Goals as goal
 pub invariant_of-self : goal.invariant_of-self
 invariant_of-self c =
     let k = c.args.self.now in
-    ((omega arith, simp length-set k.room.1, simp length-set k.room.2), (λ u. lens_small k.lens c.args.v _ u k.short c.requires, tt))
+    record { room = (omega arith, simp length-set k.room.1, simp length-set k.room.2); short = (λ u. lens_small k.lens c.args.v _ u k.short c.requires) }
 
 pub returns : goal.returns
 returns c =
@@ -16,8 +16,8 @@ returns c =
     let lens = set k.lens v (length c.args.list.now) in
     record {
       held = refl;
-      row = c.put-row.ensures.here lens (get_or-set_same k.lens v _ 0 (omega arith));
+      row = c.put_row.ensures.here lens (get_or-set_same k.lens v _ 0 (omega arith));
       others = λ u ne.
-          c.put-row.ensures.others lens u ne (lens_small k.lens v _ u k.short c.requires)
+          c.put_row.ensures.others lens u ne (lens_small k.lens v _ u k.short c.requires)
           ∙ ap (λ n. take n (drop (u * most_cuts) k.cuts)) (get_or-set_other k.lens v u _ 0 ne);
     }

@@ -3,4 +3,4 @@ use Rattle.fitter.proofs.FlatRows.{zeros_small}
 use Rattle.fitter.proofs.kept.Kept.new.Goals as goal
 
 pub invariant_of-result : goal.invariant_of-result
-invariant_of-result c = ((refl, refl, refl), (zeros_small 256, tt))
+invariant_of-result c = record { room = (refl, refl, refl); short = zeros_small 256 }
