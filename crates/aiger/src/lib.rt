@@ -10,6 +10,7 @@
 //! The first line with a fault decides, and in a line the pattern comes before the numbers. A fault of the pattern is
 //! at the byte that breaks it, or at the text's length where the text ends early; one of the header's figures is at
 //! byte 0; one of a literal is at its line's first byte.
+#![tactic(auto)]
 
 mod draft;
 mod line;

@@ -1,4 +1,5 @@
 //! Tests of reading and writing drawings as text.
+#![tactic(auto)]
 
 #[cfg(test)]
 mod texts;

@@ -1,5 +1,5 @@
 -- Worked examples: the sections of a small cover.
-use Rattle.std.proofs.Common.{◌≡◌, ℕ, List, [], ◌∷◌, codes, refl}
+use Rattle.std.proofs.Common.{◌≡◌, [], ◌∷◌, codes, refl}
 use Rattle.cells.specs.declared.cell.Cell.{Cell}
 use Rattle.cells.specs.Netlist.{Netlist, netlist}
 use Rattle.blif.specs.Sections.{section_text}

@@ -1,4 +1,5 @@
 //! Lookup cells: their truth tables, the cover of a drawing by cells, and what a cover answers to a row.
+#![tactic(auto)]
 
 pub mod cell;
 pub mod cover;

@@ -1,5 +1,5 @@
 -- The needed gates alone: their leaves are needed, so the table of the needed gates serves as well as the whole one.
-use Rattle.std.proofs.Common.{◌≡◌, ℕ, ◌-◌, ◌<◌, true, false, cond, not, ◌&&◌, ◌||◌, eqb, ◌⊎◌, List, [], ◌∷◌, length, get_or, take, sym, refl, ap, ◌∙◌, ap₂, inl, inr, ⊎_elim, arith}
+use Rattle.std.proofs.Common.{◌≡◌, ℕ, ◌<◌, true, false, cond, not, ◌&&◌, ◌||◌, eqb, List, [], ◌∷◌, length, get_or, take, sym, refl, ap, ◌∙◌, ap₂, inl, inr, ⊎_elim, arith}
 use Rattle.std.proofs.lemmas.Bool.{and_parts, and_from, or_cases, or_right, eqb-true, cases_Bool, cond-false, cond_both, not_from_true, and_right, and_left}
 use Rattle.std.proofs.lemmas.List.{get_or-take}
 use Rattle.drawing.specs.declared.node.Node.{Node}

@@ -1,4 +1,5 @@
 //! How map chooses among cuts, and which nodes it has to look at.
+#![tactic(auto)]
 
 pub mod choose;
 pub mod marks;

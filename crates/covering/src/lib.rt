@@ -1,4 +1,5 @@
 //! The last pass of map: filling a cover with the chosen cells.
+#![tactic(auto)]
 
 pub mod fill;
 

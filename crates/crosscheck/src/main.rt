@@ -1,4 +1,5 @@
 //! Holds map to another way to the same levels, and evaluate to plain simulation, on drawings of all sizes.
+#![tactic(auto)]
 
 mod draw;
 mod flow;

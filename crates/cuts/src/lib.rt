@@ -1,4 +1,5 @@
 //! Least cuts: stored cuts, and the making of a gate's list of least cuts from those of its fanins.
+#![tactic(auto)]
 
 pub mod cut;
 pub mod list;

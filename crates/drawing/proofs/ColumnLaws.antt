@@ -1,6 +1,6 @@
 -- A column's laws: its length, each entry by those below it, and that a longer drawing leaves them.
-use Rattle.std.proofs.Common.{◌≡◌, ℕ, zero, suc, ◌+◌, ◌<◌, ◌≤◌, min, List, [], ◌∷◌, ◌++◌, length, get_or, take, drop, set, sym, refl, ap, ◌∙◌, subst, add-zero, add-suc, zero-add, arith, length-append}
-use Rattle.std.proofs.lemmas.List.{append_assoc, length_push, get_or_append_left, take-append-le, get_or_at, take_at, take_all, length-take-le, get_or-take, append-nil, take-append-drop, take_more, take_more_set}
+use Rattle.std.proofs.Common.{◌≡◌, ℕ, zero, suc, ◌+◌, ◌<◌, ◌≤◌, List, [], ◌∷◌, ◌++◌, length, get_or, take, drop, set, sym, refl, ap, ◌∙◌, arith}
+use Rattle.std.proofs.lemmas.List.{append_assoc, length_push, get_or_at, take_at, length-take-le, append-nil, take-append-drop, take_more, take_more_set}
 use Rattle.drawing.specs.Column.{extend, column}
 
 module _ {N X : Type 0} (step : List X → N → X) where

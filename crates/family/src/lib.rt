@@ -1,4 +1,5 @@
 //! Part families: what a family of cells tells of arrivals, two that are supplied, and the arrival of a cell.
+#![tactic(auto)]
 
 pub mod fold;
 pub mod levels;

@@ -1,4 +1,5 @@
 //! Worked figures: small drawings with the lists of cuts, cells, tables and arrivals that the definitions give for them.
+#![tactic(auto)]
 
 ghost use Rattle.figures.specs.Figures.{figures, FiguresHold};
 ghost use Rattle.std.specs.Prelude.{length, ◌≡◌};

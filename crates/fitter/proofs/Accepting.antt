@@ -1,5 +1,5 @@
 -- What the passes of map come to.
-use Rattle.std.proofs.Common.{◌≡◌, ℕ, ◌<◌, ◌≤◌, Bool, true, false, ◌&&◌, ◌||◌, List, ◌++◌, length, drop, Ok, Err, sym, refl, ap, ◌∙◌, subst, arith}
+use Rattle.std.proofs.Common.{◌≡◌, ℕ, ◌≤◌, Bool, true, List, ◌++◌, length, drop, Err, sym, refl, ap, ◌∙◌, subst}
 use Rattle.std.proofs.lemmas.List.{length-map}
 use Rattle.std.proofs.lemmas.Bool.{and_parts, and_from, or_right, lt-ltb}
 use Rattle.drawing.specs.declared.refusal.Refusal.{Refusal}
@@ -12,7 +12,7 @@ use Rattle.cells.specs.declared.cover.Cover.{Cover}
 use Rattle.cells.specs.Netlist.{Netlist, cell_of}
 use Rattle.covering.specs.Chosen.{chosen}
 use Rattle.fitter.specs.declared.job.Job.{Job}
-use Rattle.fitter.specs.Book.{Book, size, needed_in}
+use Rattle.fitter.specs.Book.{size, needed_in}
 use Rattle.fitter.specs.Jobs.{book_of, is_kept}
 use Rattle.fitter.specs.Making.{MarksNeeded, Ready, Stopped}
 use Rattle.fitter.specs.Taking.{AllKept, arrival_table}

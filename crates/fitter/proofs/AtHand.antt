@@ -1,11 +1,11 @@
 -- What a job has at hand for making the list of a gate, and that keeping that list leaves the job's facts.
-use Rattle.std.proofs.Common.{◌≡◌, ℕ, ◌*◌, ◌<◌, ◌≤◌, Bool, true, false, ◌||◌, eqb, ◌≢◌, ◌⊎◌, List, length, get_or, drop, set, sym, refl, ap, ◌∙◌, subst, inl, inr, ⊎_elim, arith}
+use Rattle.std.proofs.Common.{◌≡◌, ℕ, ◌*◌, ◌<◌, ◌≤◌, Bool, true, false, ◌||◌, eqb, ◌≢◌, List, length, get_or, drop, set, sym, refl, ap, ◌∙◌, subst, inl, inr, ⊎_elim, arith}
 use Rattle.std.proofs.lemmas.List.{length-take, get_or-set_same, get_or-set_other}
 use Rattle.std.proofs.lemmas.Bool.{and_parts, leb-true, cases_eq, eq-eqb, ne_eqb, or_right}
 use Rattle.drawing.specs.declared.node.Pair.{Pair}
 use Rattle.drawing.specs.declared.node.Node.{Node}
 use Rattle.drawing.specs.declared.node.Node.TheVariants.{Gate}
-use Rattle.drawing.specs.Drawing.{drawing, at, is_gate, fanins, node_of, sound, most_leaves, most_nodes}
+use Rattle.drawing.specs.Drawing.{at, is_gate, fanins, node_of, sound, most_leaves, most_nodes}
 use Rattle.drawing.specs.Sets.{elem, In}
 use Rattle.drawing.proofs.Lawful.{lawful_says}
 use Rattle.drawing.proofs.Sound.{gate_range, fanins_below_lem}

@@ -1,13 +1,12 @@
 -- The law over histories: what a job holds is what its calls make, so what map owes by its job it owes by the book.
-use Rattle.std.proofs.Common.{◌≡◌, ℕ, zero, suc, ◌+◌, ◌<◌, ◌≤◌, Bool, true, false, cond, not, ◌&&◌, ◌||◌, eqb, ltb, leb, ◌≢◌, List, [], ◌∷◌, length, is_ok, Ok, Err, Result, sym, refl, ap, ◌∙◌, subst, ⊎_elim, arith}
-use Rattle.std.proofs.lemmas.Bool.{and_parts, and_from, and_left, and_right, both_ways, cases_eq, cond-true, cond-false, eq-eqb, ne_eqb, le-leb, leb-true, lt-leb}
+use Rattle.std.proofs.Common.{◌≡◌, ℕ, zero, suc, ◌+◌, ◌<◌, ◌≤◌, Bool, true, false, ◌&&◌, ◌||◌, ltb, ◌≢◌, List, [], ◌∷◌, length, Ok, Err, Result, sym, refl, ap, ◌∙◌, subst, ⊎_elim, arith}
+use Rattle.std.proofs.lemmas.Bool.{and_parts, and_from, and_left, and_right, both_ways, cases_eq, cond-true, cond-false, eq-eqb, ne_eqb, le-leb, lt-leb}
 use Rattle.drawing.specs.declared.refusal.Refusal.{Refusal}
 use Rattle.drawing.specs.declared.refusal.Refusal.TheVariants.{NodesFull, OutputsFull, BadLiteral, NotAGate, BadWidth, Text, TooShort, Crowded, BadBit, NoSection}
 use Rattle.drawing.specs.Drawing.{at, is_gate}
 use Rattle.drawing.proofs.Sound.{gate_range}
 use Rattle.family.specs.Family.{Delay, Laws}
 use Rattle.cells.specs.declared.cover.Cover.{Cover}
-use Rattle.cells.specs.Netlist.{Netlist}
 use Rattle.cells.specs.Netlists.{netlist_of}
 use Rattle.covering.specs.Chosen.{chosen}
 use Rattle.covering.proofs.ChosenCover.{chosen_fits, chosen_agrees, chosen_narrow, chosen_first}

@@ -15,8 +15,8 @@ use Rattle.covering.specs.Chosen.{chosen, cover_by}
 use Rattle.covering.specs.Times.{cover_arrival}
 use Rattle.fitter.specs.declared.job.Job.{Job}
 use Rattle.fitter.specs.Book.{Book, size, crowded_at}
-use Rattle.fitter.specs.Jobs.{book_of, is_kept}
-use Rattle.fitter.specs.Making.{made_below, Ready, Stopped}
+use Rattle.fitter.specs.Jobs.{book_of}
+use Rattle.fitter.specs.Making.{Ready, Stopped}
 use Rattle.fitter.specs.Taking.{arrival_table}
 
 -- The caller hands in a family, a cover and an arrival table.

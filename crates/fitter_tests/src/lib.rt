@@ -1,4 +1,5 @@
 //! Tests of jobs: the worked figures, the refusals, and histories of calls.
+#![tactic(auto)]
 
 #[cfg(test)]
 mod compare;

@@ -1,4 +1,5 @@
 //! Handles one job by a script on standard input: a line a command, and an answer a line.
+#![tactic(auto)]
 
 mod answer;
 mod desk;

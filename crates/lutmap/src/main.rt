@@ -1,4 +1,5 @@
 //! Reads a drawing from standard input, and prints its cell list or `refused N at P`.
+#![tactic(auto)]
 
 ghost use Rattle.std.specs.Prelude.{◌≤◌, length, IfOk};
 

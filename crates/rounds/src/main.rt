@@ -1,5 +1,6 @@
 //! Maps the drawing on standard input over and over by Levels, for timing, and prints the cells and lists of all rounds:
 //! `rounds WIDTH ROUNDS load|fresh|kept`.
+#![tactic(auto)]
 
 use anyhow::{Context, anyhow};
 use cells::cover::Cover;

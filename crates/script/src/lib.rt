@@ -1,4 +1,5 @@
 //! The commands of a script that handles a job, and how a line is read as one.
+#![tactic(auto)]
 
 pub mod command;
 mod fields;

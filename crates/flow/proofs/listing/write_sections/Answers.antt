@@ -1,12 +1,11 @@
-use Rattle.std.proofs.Common.{◌≡◌, ℕ, ◌+◌, ◌-◌, ◌<◌, ◌≤◌, List, ◌++◌, length, take, drop, Ok, Err, sym, refl, ap, ◌∙◌, subst, arith, length-append, length-drop, rules}
+use Rattle.std.proofs.Common.{◌≡◌, ℕ, ◌+◌, ◌-◌, ◌<◌, ◌≤◌, List, length, take, drop, ap, ◌∙◌, arith, length-append, length-drop, rules}
 use Rattle.std.proofs.lemmas.Slice.{between_to_end}
-use Rattle.std.proofs.lemmas.List.{append-nil}
 use Rattle.std.proofs.lemmas.Result.{err_from_is_err_and, IfOk-from_err}
 use Rattle.blif.specs.Text.{texts}
 use Rattle.blif.specs.Sections.{section_answer, section_writes, section_count, section_text}
 use Rattle.cells.specs.Netlists.{netlist_of}
 use Rattle.flow.specs.Listing.{cell_list}
-use Rattle.flow.proofs.Joining.{Written, written_none, written_more, written_room, section_ok, section_short, list_done, list_short, put_end, printed_short}
+use Rattle.flow.proofs.Joining.{written_none, written_more, written_room, section_ok, section_short, list_done, list_short, put_end, printed_short}
 use Rattle.flow.proofs.listing.write_sections.Goals as goal
 
 pub loop-section-init : goal.loop-section-init

@@ -1,5 +1,3 @@
-use Rattle.std.proofs.Common.{◌≡◌, ◌≤◌, ◌++◌, length, take, drop}
-use Rattle.std.specs.List.{flat_map}
 use Rattle.blif.specs.Text.{texts}
 use Rattle.cells.specs.Netlists.{netlist_of}
 use Rattle.flow.proofs.Joining.{Written}
