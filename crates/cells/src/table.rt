@@ -8,7 +8,7 @@ ghost use Rattle.cells.specs.Netlist.{cell_of};
 ghost use Rattle.cells.specs.Truth.{bit, cone, in_row, leaf_bits, table_bit, table_of, unset};
 ghost use Rattle.drawing.specs.Drawing.{fanins, sound};
 ghost use Rattle.drawing.specs.Sets.{below};
-ghost use Rattle.drawing.specs.Values.{literal as literalValue, lookup, turned, valuing};
+ghost use Rattle.drawing.specs.Values.{literal as literal_value, lookup, turned, valuing};
 
 use crate::cell::Cell;
 use drawing::node::Node;
@@ -45,7 +45,7 @@ fn leaf_word(leaves: &[u8], node: u8, own: u32) -> u32
 /// The values of a literal, by those of the nodes.
 fn literal_word(words: &[u32], literal: u16) -> u32
     requires { literal / 2 < length words.now }
-    ensures { (m : ℕ) → m < table_bits → bit result m ≡ literalValue (in_row m words.now) literal }
+    ensures { (m : ℕ) → m < table_bits → bit result m ≡ literal_value (in_row m words.now) literal }
 {
     turn(words[literal as usize / 2], literal)
 }

@@ -18,12 +18,12 @@ use Rattle.choice.proofs.OwnCover.{taken_listed, edges_below_lem}
 use Rattle.choice.proofs.Needed.{reached_down}
 
 -- edges that agree where P holds, and lead on to where it holds, reach the same from there
-module _ (e f : ℕ → List ℕ) (size : ℕ) (eBelow : (v u : ℕ) → v < size → In u (e v) → u < v) (f_below : (v u : ℕ) → v < size → In u (f v) → u < v) (P : ℕ → Type 0) (agree : (v : ℕ) → v < size → P v → e v ≡ f v) (on : (v u : ℕ) → v < size → P v → In u (e v) → P u) where
+module _ (e f : ℕ → List ℕ) (size : ℕ) (e_below : (v u : ℕ) → v < size → In u (e v) → u < v) (f_below : (v u : ℕ) → v < size → In u (f v) → u < v) (P : ℕ → Type 0) (agree : (v : ℕ) → v < size → P v → e v ≡ f v) (on : (v u : ℕ) → v < size → P v → In u (e v) → P u) where
   alike' : (bound u v : ℕ) → v < bound → v < size → P v → reach e size u v ≡ reach f size u v
   alike' zero u v b l p = absurd (omega arith)
   alike' (suc bound) u v b l p =
-      reach_is e size eBelow u v l
-      ∙ some_same (λ w. eqb w u || reach e size u w) (λ w. eqb w u || reach f size u w) (e v) (λ w m. let q = eBelow v w l m in ap (λ z. eqb w u || z) (alike' bound u w (omega arith) (omega arith) (on v w l p m)))
+      reach_is e size e_below u v l
+      ∙ some_same (λ w. eqb w u || reach e size u w) (λ w. eqb w u || reach f size u w) (e v) (λ w m. let q = e_below v w l m in ap (λ z. eqb w u || z) (alike' bound u w (omega arith) (omega arith) (on v w l p m)))
       ∙ ap (some (λ w. eqb w u || reach f size u w)) (agree v l p)
       ∙ sym (reach_is f size f_below u v l)
 
@@ -34,8 +34,8 @@ module _ (e f : ℕ → List ℕ) (size : ℕ) (eBelow : (v u : ℕ) → v < siz
   keeps' zero u v b p h = absurd (omega arith)
   keeps' (suc bound) u v b p h =
       let l = reach_range e size u v h in
-      let r = reach_ways e size eBelow u v h in
-      let q = eBelow v r.0 l r.1 in
+      let r = reach_ways e size e_below u v h in
+      let q = e_below v r.0 l r.1 in
       let k = on v r.0 l p r.1 in
       ⊎_elim (λ (x : r.0 ≡ u). subst P x k) (λ x. keeps' bound u r.0 (omega arith) k x) r.2
 

@@ -80,16 +80,16 @@ module _ {A : Type 0} (F : Delay A) (L : Laws F) where
       earliest' (suc bound) v l c =
           let g = R.gates v c in
           let q = R.cuts v c in
-          let cutV = cut_says nodes v (given v) q.0 in
-          let lowB = take v (best F nodes k) in
-          let lowR = take v (arrivals F nodes given) in
-          let leaf : Earlier F lowB lowR (given v) = λ u i.
-          let below = cutV.under u i in
+          let cut_v = cut_says nodes v (given v) q.0 in
+          let low_b = take v (best F nodes k) in
+          let low_r = take v (arrivals F nodes given) in
+          let leaf : Earlier F low_b low_r (given v) = λ u i.
+          let below = cut_v.under u i in
           let x : F.not_later (get_or (best F nodes k) u F.start) (get_or (arrivals F nodes given) u F.start) ≡ true =
           ⊎_elim (λ h. earliest' bound u (omega arith) (R.leaves v u c i h)) (λ h. rw (best_plain u (omega (arith, g.0)) h) (L.first _)) (cases_Bool (is_gate (at nodes u))) in
           rw (get_or-take v (best F nodes k) u F.start below, get_or-take v (arrivals F nodes given) u F.start below) x in
-          L.trans _ _ _ (best_by_cut few v (given v) g.0 g.1 cutV q.1)
-          (rw (arrivals_gate given v g.0 g.1) (cell_not_later F L lowB lowR (given v) (given v) (omega arith) (omega (arith, q.1)) (says_sub (given v) (given v) (λ u i. i)) leaf))
+          L.trans _ _ _ (best_by_cut few v (given v) g.0 g.1 cut_v q.1)
+          (rw (arrivals_gate given v g.0 g.1) (cell_not_later F L low_b low_r (given v) (given v) (omega arith) (omega (arith, q.1)) (says_sub (given v) (given v) (λ u i. i)) leaf))
 
       pub earliest : (v : ℕ) → chosen v ≡ true → F.not_later (get_or (best F nodes k) v F.start) (get_or (arrivals F nodes given) v F.start) ≡ true
       earliest v c = earliest' (suc v) v (omega arith) c

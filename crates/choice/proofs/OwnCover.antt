@@ -39,10 +39,10 @@ module _ (nodes : List Node) (d : sound nodes ≡ true) (v : ℕ) (l : v < lengt
       go q =
           let f = node_of q.0.left in
           let h = node_of q.0.right in
-          let isFans : fanins (at nodes v) ≡ f ∷ h ∷ [] = rw q.1 refl in
-          let a = single_choice nodes f d (omega (arith, f_below nodes d 2 v f h l isFans)) in
-          let b = single_choice nodes h d (omega (arith, g_below nodes d 2 v f h l isFans)) in
-          (union a.0 b.0, union_cut nodes d 2 v f h l isFans a.0 b.0 a.1 b.1, omega (arith, length_union a.0 b.0, a.2, b.2))
+          let is_fans : fanins (at nodes v) ≡ f ∷ h ∷ [] = rw q.1 refl in
+          let a = single_choice nodes f d (omega (arith, f_below nodes d 2 v f h l is_fans)) in
+          let b = single_choice nodes h d (omega (arith, g_below nodes d 2 v f h l is_fans)) in
+          (union a.0 b.0, union_cut nodes d 2 v f h l is_fans a.0 b.0 a.1 b.1, omega (arith, length_union a.0 b.0, a.2, b.2))
 
   pub list_some : (k : ℕ) → 2 ≤ k → 0 < length (least_cuts nodes k v)
   list_some k h =

@@ -97,18 +97,18 @@ module _ {A : Type 0} (F : Delay A) (L : Laws F) (nodes : List Node) (d : sound 
     root_late =
         let part = keep (λ u. ltb u root) leaves in
         let lower = take root (best F nodes k) in
-        let cutR = part_cut nodes root leaves d (omega arith) laws.rising suits.closing root_out in
+        let cut_r = part_cut nodes root leaves d (omega arith) laws.rising suits.closing root_out in
         let inside : Sub part leaves = λ u i. (and_parts (mem u leaves) _ (sym (mem_keep (λ x. ltb x root) u leaves) ∙ i)).0 in
-        let shorter = part_length 0 0 part leaves cutR.rising laws.rising inside in
+        let shorter = part_length 0 0 part leaves cut_r.rising laws.rising inside in
         let time : cell_arrival F table leaves ≡ cell_time F times c =
         ap (λ ts. F.result (latest F ts) (length leaves)) (map_same (λ u. get_or table u F.start) (time_at F times) leaves (λ u i. table_at u (leaf_late u (in_mem u leaves i)).range)) in
         subst (λ x. F.not_later (earliest root) x ≡ true) time
         (L.trans _ _ _
-        (best_by_cut F L nodes k few root part root_range root_gate cutR (omega arith))
+        (best_by_cut F L nodes k few root part root_range root_gate cut_r (omega arith))
         (cell_not_later F L lower table part leaves shorter (omega arith) (says_sub part leaves inside)
         (λ u i.
         let t = leaf_late u (inside u i) in
-        subst (λ x. F.not_later x (get_or table u F.start) ≡ true) (sym (get_or-take root (best F nodes k) u F.start (cutR.under u i)))
+        subst (λ x. F.not_later x (get_or table u F.start) ≡ true) (sym (get_or-take root (best F nodes k) u F.start (cut_r.under u i)))
         (subst (λ x. F.not_later (earliest u) x ≡ true) (sym (table_at u t.range)) t.after))))
 
     late_more : AllLate root ((root, cell_time F times c) ∷ times) (root_name c ∷ names)

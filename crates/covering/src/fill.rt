@@ -4,7 +4,7 @@ ghost use Rattle.std.specs.Prelude.{◌≡◌, ◌≤◌, true, [], length};
 ghost use Rattle.cells.specs.Laws.{names_of, output_lawful};
 ghost use Rattle.cells.specs.Netlist.{empty_netlist, netlist};
 ghost use Rattle.cells.specs.Netlists.{netlist_of};
-ghost use Rattle.choice.specs.Choice.{cells as chosenCells, Chosen};
+ghost use Rattle.choice.specs.Choice.{cells as chosen_cells, Chosen};
 ghost use Rattle.choice.specs.Rivals.{Rival};
 ghost use Rattle.covering.specs.Chosen.{chosen, cover_up_to, marked_gate, set_at};
 ghost use Rattle.cuts.specs.Leaves.{sets_of};
@@ -75,7 +75,7 @@ pub fn fill<F: Family>(
     requires each { length nodes.now ≤ length cuts.now }
     requires taken { Chosen (F.delay family.now) nodes.now outputs.now width (length nodes.now) (sets_of cuts.now) }
     ensures netlist { netlist_of cover.new ≡ chosen (F.delay family.now) (drawing nodes.now outputs.now) width }
-    ensures count { result ≡ length (chosenCells (F.delay family.now) nodes.now width outputs.now) }
+    ensures count { result ≡ length (chosen_cells (F.delay family.now) nodes.now width outputs.now) }
 {
     let marks = reached_by(nodes, outputs, cuts);
     cover.clear();

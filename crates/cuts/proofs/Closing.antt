@@ -46,7 +46,7 @@ closes_by nodes s n d l (member m) = closes_is nodes s n d l ∙ or_left _ _ (or
 closes_by nodes s n d l (through g h) = closes_is nodes s n d l ∙ or_right _ _ (and_from _ _ g (in_every (closes nodes s) (fanins (at nodes n)) h))
 
 -- From one drawing and set to another, over the nodes of D: those lie in both drawings alike, D goes down, and there the first set lies in the second.
-module _ (old new : List Node) (oldSound : sound old ≡ true) (newSound : sound new ≡ true) (s t : List ℕ) (D : ℕ → Bool)
+module _ (old new : List Node) (old_sound : sound old ≡ true) (new_sound : sound new ≡ true) (s t : List ℕ) (D : ℕ → Bool)
     (alike : (n : ℕ) → D n ≡ true → n < length old → (n < length new) × (at new n ≡ at old n))
     (down : (n f : ℕ) → D n ≡ true → n < length old → In f (fanins (at old n)) → D f ≡ true)
     (into : (u : ℕ) → D u ≡ true → mem u s ≡ true → mem u t ≡ true) where
@@ -55,11 +55,11 @@ module _ (old new : List Node) (oldSound : sound old ≡ true) (newSound : sound
   carried (suc bound) n l i h =
       let r = closes_range old s n h in
       let a = alike n i r in
-      closes_by new t n newSound a.0
-      (elim (closes_ways old s n oldSound h) [
+      closes_by new t n new_sound a.0
+      (elim (closes_ways old s n old_sound h) [
         | zeroth e ↦ zeroth e
         | member m ↦ member (into n i m)
-        | through g f ↦ through (rw a.1 g) (rw a.1 (λ k m. carried bound k (omega (arith, fanins_below_lem old n k oldSound r m)) (down n k i r m) (f k m)))
+        | through g f ↦ through (rw a.1 g) (rw a.1 (λ k m. carried bound k (omega (arith, fanins_below_lem old n k old_sound r m)) (down n k i r m) (f k m)))
       ])
 
   pub closes_carries : (n : ℕ) → D n ≡ true → closes old s n ≡ true → closes new t n ≡ true

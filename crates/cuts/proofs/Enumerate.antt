@@ -55,19 +55,19 @@ says_minimal sets s h =
     both_ways _ (not-true _ q.1) (rw e (same_refl s)) in
     in_keep (λ x. not (some (other x) sets)) s sets h.0 (not_from_false _ (⊎_elim (λ e. absurd (bad e)) (λ e. e) (cases_Bool (some (other s) sets))))
 
-module _ (nodes : List Node) (d : sound nodes ≡ true) (k v f g : ℕ) (inside : v < length nodes) (isFans : fanins (at nodes v) ≡ f ∷ g ∷ []) where
+module _ (nodes : List Node) (d : sound nodes ≡ true) (k v f g : ℕ) (inside : v < length nodes) (is_fans : fanins (at nodes v) ≡ f ∷ g ∷ []) where
   pub f_below : f < v
-  f_below = fanins_below_lem nodes v f d inside (rw isFans (inl refl))
+  f_below = fanins_below_lem nodes v f d inside (rw is_fans (inl refl))
 
   pub g_below : g < v
-  g_below = fanins_below_lem nodes v g d inside (rw isFans (inr (inl refl)))
+  g_below = fanins_below_lem nodes v g d inside (rw is_fans (inr (inl refl)))
 
   -- a union is a cut
   pub union_cut : (a b : List ℕ) → Choice nodes f a → Choice nodes g b → Cut nodes v (union a b)
   union_cut a b p q = record {
     rising = rises_union 0 a b p.rising q.rising;
     under = λ u m. ⊎_elim (λ (e : mem u a ≡ true). omega (arith, p.upto u e, f_below)) (λ (e : mem u b ≡ true). omega (arith, q.upto u e, g_below)) (or_cases _ _ (sym (mem_union u a b) ∙ m));
-    closed = λ n m. closed_both n (rw isFans at m);
+    closed = λ n m. closed_both n (rw is_fans at m);
   }
     where
       closed_both : (n : ℕ) → In n (f ∷ g ∷ []) → closes nodes (union a b) n ≡ true
@@ -87,8 +87,8 @@ module _ (nodes : List Node) (d : sound nodes ≡ true) (k v f g : ℕ) (inside 
   pub cut_joined : (s : List ℕ) → Cut nodes v s → length s ≤ k → (w : List ℕ) × In w (joined nodes k f g) × Sub w s
   unfolding joined
   cut_joined s c h =
-      let a = choice_inside nodes k f s d c.rising h (c.closed f (rw isFans (inl refl))) in
-      let b = choice_inside nodes k g s d c.rising h (c.closed g (rw isFans (inr (inl refl)))) in
+      let a = choice_inside nodes k f s d c.rising h (c.closed f (rw is_fans (inl refl))) in
+      let b = choice_inside nodes k g s d c.rising h (c.closed g (rw is_fans (inr (inl refl)))) in
       let w = union a.0 b.0 in
       let p = choice_closes nodes k f a.0 d (omega (arith, f_below)) a.1 in
       let q = choice_closes nodes k g b.0 d (omega (arith, g_below)) b.1 in

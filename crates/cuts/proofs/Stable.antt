@@ -16,14 +16,14 @@ use Rattle.cuts.proofs.Closing.{closes_carries}
 use Rattle.drawing.proofs.Sound.{fanins_below_lem}
 use Rattle.drawing.proofs.ReachLaws.{depends_direct, depends_through}
 
-module _ (old new : List Node) (oldSound : sound old ≡ true) (newSound : sound new ≡ true) (D : ℕ → Bool)
+module _ (old new : List Node) (old_sound : sound old ≡ true) (new_sound : sound new ≡ true) (D : ℕ → Bool)
     (alike : (n : ℕ) → D n ≡ true → (n < length old) × (n < length new) × (at new n ≡ at old n))
     (down : (n f : ℕ) → D n ≡ true → In f (fanins (at old n)) → D f ≡ true) where
   pub closes_alike : (s : List ℕ) (n : ℕ) → D n ≡ true → closes old s n ≡ closes new s n
   closes_alike s n i =
       same_from_decides {P = closes old s n ≡ true} _ _ ((λ h. h), (λ h. h)) (
-        closes_carries new old newSound oldSound s s D (λ m j l. ((alike m j).0, sym (alike m j).2)) (λ m f j l k. down m f j (rw (alike m j).2 at k)) (λ u j k. k) n i,
-        closes_carries old new oldSound newSound s s D (λ m j l. ((alike m j).1, (alike m j).2)) (λ m f j l k. down m f j k) (λ u j k. k) n i,
+        closes_carries new old new_sound old_sound s s D (λ m j l. ((alike m j).0, sym (alike m j).2)) (λ m f j l k. down m f j (rw (alike m j).2 at k)) (λ u j k. k) n i,
+        closes_carries old new old_sound new_sound s s D (λ m j l. ((alike m j).1, (alike m j).2)) (λ m f j l k. down m f j k) (λ u j k. k) n i,
       )
 
   pub list_alike : (k v : ℕ) → D v ≡ true → least_cuts old k v ≡ least_cuts new k v

@@ -131,19 +131,19 @@ joins_in k lefts rights lefts' rights' f g w m =
     in_keep short w (unions lefts' rights') (subst (λ z. In z (unions lefts' rights')) q.4 (in_unions q.0 q.1 lefts' rights' (f q.0 q.2) (g q.1 q.3))) r.1
 
 -- what survives of the unions, seen in any order
-module _ (nodes : List Node) (d : sound nodes ≡ true) (k v f g : ℕ) (inside : v < length nodes) (isFans : fanins (at nodes v) ≡ f ∷ g ∷ [])
+module _ (nodes : List Node) (d : sound nodes ≡ true) (k v f g : ℕ) (inside : v < length nodes) (is_fans : fanins (at nodes v) ≡ f ∷ g ∷ [])
     (seen : List (List ℕ)) (into : (s : List ℕ) → In s seen → In s (joined nodes k f g)) (onto : (s : List ℕ) → In s (joined nodes k f g) → In s seen) where
   rising : (s : List ℕ) → In s seen → rises 0 s ≡ true
-  rising s m = (joined_cut nodes d k v f g inside isFans s (into s m)).0.rising
+  rising s m = (joined_cut nodes d k v f g inside is_fans s (into s m)).0.rising
 
   survivor_listed : (s : List ℕ) → In s (survivors [] seen) → In s (least_cuts nodes k v)
   survivor_listed s m =
       let q = kept_minimal seen _ (front_all seen) rising s m in
-      joined_list nodes d k v f g inside isFans s (says_minimal _ s (into s q.0, λ t i h. q.1 t (onto t i) h))
+      joined_list nodes d k v f g inside is_fans s (says_minimal _ s (into s q.0, λ t i h. q.1 t (onto t i) h))
 
   listed_survivor : (s : List ℕ) → In s (least_cuts nodes k v) → In s (survivors [] seen)
   listed_survivor s m =
-      let q = minimal_says _ s (list_joined nodes d k v f g inside isFans s m) in
+      let q = minimal_says _ s (list_joined nodes d k v f g inside is_fans s m) in
       minimal_kept seen _ (front_all seen) rising s (onto s q.0, λ t i h. q.1 t (into t i) h)
 
   survivors_list : Alike (survivors [] seen) (least_cuts nodes k v) × (length (survivors [] seen) ≡ length (least_cuts nodes k v))

@@ -3,7 +3,7 @@ use Rattle.std.proofs.lemmas.Result.{err_from_is_err_and}
 use Rattle.drawing.specs.declared.node.Node.{Node}
 use Rattle.drawing.specs.declared.refusal.Refusal.TheVariants.{BadWidth, TooShort}
 use Rattle.drawing.specs.Drawing.{drawing}
-use Rattle.choice.specs.Choice.{cells as chosenCells}
+use Rattle.choice.specs.Choice.{cells as chosen_cells}
 use Rattle.cells.specs.Netlists.{netlist_of}
 use Rattle.covering.specs.Chosen.{chosen}
 use Rattle.fitter.specs.Book.{size}
@@ -81,8 +81,8 @@ returns g c =
     let os = c.outputs-2.ensures in
     let covered : netlist_of c.fill-cells.new.cover ≡ chosen F (book_of j).drawing j.width =
     c.fill-cells.ensures.netlist ∙ ap (λ (z : List Node). chosen F (drawing z c.outputs-2.result.now) j.width) ns ∙ ap (λ (z : List ℕ). chosen F (drawing (book_of j).drawing.nodes z) j.width) os in
-    let counted : cells ≡ length (chosenCells F (book_of j).drawing.nodes j.width (book_of j).drawing.outputs) =
-    c.fill-cells.ensures.count ∙ ap (λ (z : List Node). length (chosenCells F z j.width c.outputs-2.result.now)) ns ∙ ap (λ (z : List ℕ). length (chosenCells F (book_of j).drawing.nodes j.width z)) os in
+    let counted : cells ≡ length (chosen_cells F (book_of j).drawing.nodes j.width (book_of j).drawing.outputs) =
+    c.fill-cells.ensures.count ∙ ap (λ (z : List Node). length (chosen_cells F z j.width c.outputs-2.result.now)) ns ∙ ap (λ (z : List ℕ). length (chosen_cells F (book_of j).drawing.nodes j.width z)) os in
     let m = map_accepted F i j table c.take_cuts-cuts.new.table cells made (netlist_of c.fill-cells.new.cover) (sym c.width.ensures ∙ c.if-width-self.false) room r covered counted c.take_cuts-cuts.ensures.arrivals in
     record {
       mapped = m;
