@@ -3,7 +3,7 @@ import re
 
 SIGNATURE = re.compile(r"((?:unfoldable |abbrev |axiom |pub )*)([^\s(){}.,;]+)(?: \{[^}]*\})? :(?:\s|$)")
 # the files of a proof folder that answer for one function
-OF_ONE_FUNCTION = ("Answers.antt", "Choices.antt", "Proof.antt")
+OF_ONE_FUNCTION = ("Answers.antt", "Invariants.antt", "Proof.antt")
 
 TYPE = re.compile(r"(?:pub )?(?:record|data) ([^\s(){}.,;]+)")
 
@@ -110,12 +110,18 @@ class Function:
         return "%s::%s" % (self.owner, self.name) if self.owner else self.name
 
 
-IMPL = re.compile(r"^(?:pub )?impl(?:<[^>]*>)? (?:[\w<>:, ]+ for )?(\w+)[^{]*?(?: as (\w+))?\s*\{", re.M)
+IMPL = re.compile(r"^impl(?:<[^>]*>)? (?:([\w<>:, ]+) for )?(\w+)[^{]*?\s*\{", re.M)
+
+
+def impl_name(trait, name):
+    """The name that the check gives an impl: the type's, and behind it the trait's with its arguments, as RefusalFromFault."""
+    words = re.sub(r"\w+::", "", trait or "")
+    return name + "".join(re.findall(r"\w+", words))
 
 
 def owners(source):
-    """The blocks of impls, each with the name of its type, or its own where it has one, and whether it is of a trait."""
-    return [(m.start(), block(source, m.end() - 1), m.group(2) or m.group(1), " for " in m.group(0)) for m in IMPL.finditer(source)]
+    """The blocks of impls, each with the name of its type, and behind it that of its trait where it has one, and whether it has one."""
+    return [(m.start(), block(source, m.end() - 1), impl_name(m.group(1), m.group(2)), m.group(1) is not None) for m in IMPL.finditer(source)]
 
 
 def functions(source):

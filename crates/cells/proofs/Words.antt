@@ -1,6 +1,6 @@
 -- Words bit by bit: halves, inverses, conjunctions, low parts, and the words of the leaves.
 use Rattle.std.proofs.Common.{◌≡◌, ℕ, zero, suc, ◌+◌, ◌-◌, ◌*◌, ◌/◌, ◌%◌, ◌^◌, ◌<◌, ◌≤◌, true, eqb, List, [], ◌∷◌, get_or, sym, refl, ap, ◌∙◌, add_comm, div-one, add-one, arith, pow_mono}
-use native.Mathlib.Nat.{zero-div, div-eq_of_lt}
+use native.Mathlib.Nat.{div-eq_of_lt}
 use lib.Bits.{bit_and}
 use Rattle.std.specs.List.{range_with_len}
 use Rattle.std.proofs.lemmas.Nat.{shr-shr, and_shr, and_mod, mod_below, div-add-mod', pow_pos}
@@ -14,9 +14,6 @@ use Rattle.cells.proofs.Packed.{pow_one, bit_low}
 
 pub bit_first : (t : ℕ) → bit t 0 ≡ t % 2
 bit_first t = ap (λ x. x % 2) (div-one t)
-
-pub bit_zero : (m : ℕ) → bit 0 m ≡ 0
-bit_zero m = ap (λ x. x % 2) (zero-div (2 ^ m))
 
 pub bit_half : (t m : ℕ) → bit (t / 2) m ≡ bit t (suc m)
 bit_half t m = let e : 1 + m ≡ suc m = omega arith in ap (λ x. x % 2) (shr-shr t 1 m ∙ ap (λ k. t / 2 ^ k) e)

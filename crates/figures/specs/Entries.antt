@@ -23,10 +23,13 @@ pub data Figure : Type 0 where
   cut_taken : ℕ → List ℕ → Figure
   -- the cells of the chosen cover: root, leaves and table of each
   cells_are : List (ℕ × List ℕ × ℕ) → Figure
-  -- the best arrival of a node under Levels and under Pins, and its arrival in the chosen cover
+  -- the best arrival of a node under Levels
   best_levels : ℕ → ℕ → Figure
+  -- the best arrival of a node under Pins
   best_pins : ℕ → ℕ × ℕ → Figure
+  -- the arrival of a node in the chosen cover under Levels
   cover_levels : ℕ → ℕ → Figure
+  -- the arrival of a node in the chosen cover under Pins
   cover_pins : ℕ → ℕ × ℕ → Figure
   -- how many lists the next map makes
   lists_made : ℕ → Figure
@@ -40,7 +43,7 @@ pub record Entry : Type 0 where
 abbrev pub entry : List Call → List Figure → Entry
 entry calls says = record { calls = calls; says = says }
 
--- a cell as an entry writes it
+-- a cell as an entry writes it: its root, its leaves and its table
 abbrev pub shown : Cell → ℕ × List ℕ × ℕ
 shown c = (c.root, leaves_of c, c.table)
 

@@ -23,11 +23,17 @@ use Rattle.fitter.specs.Taking.{arrival_table}
 module _ {A : Type 0} (F : Delay A) where
   -- an accepted map: the lists of all needed gates are kept, the cover is the chosen one, and the table has the arrivals
   pub record Accepted (i : Job) (table : List A) (p : ℕ × ℕ) (j : Job) (cover : Netlist) (after : List A) : Type 0 where
+    -- the family has the job's width
     pub fitting : F.width ≡ i.width
+    -- the arrival table has an entry for each node
     pub room : size (book_of i) ≤ length table
+    -- the lists of all needed gates are kept, and the second number tells how many were made
     pub ready : Ready i p.1 j
+    -- the cover is the chosen one
     pub cover_chosen : cover ≡ chosen F (book_of i).drawing i.width
+    -- the first number is that of its cells
     pub cell_count : p.0 ≡ length cover.cells
+    -- the table has the arrivals, and what stood behind them
     pub arrivals : after ≡ arrival_table F (book_of i) ++ drop (size (book_of i)) table
 
   -- the caller's cover and table are as they were
@@ -55,11 +61,17 @@ module _ {A : Type 0} (F : Delay A) where
   -- a cover answers for a book: it is the chosen one, with the drawing's inputs, as many outputs and their values under every row;
   -- no cell has more leaves than the width, and no rival is earlier at any output
   pub record Serves (b : Book) (cover : Netlist) : Type 0 where
+    -- it is the chosen one
     pub is_chosen : cover ≡ chosen F b.drawing b.width
+    -- its inputs are the drawing's
     pub same_inputs : cover.inputs ≡ inputs_of b.drawing.nodes
+    -- it has as many outputs as the drawing
     pub as_many_outputs : length cover.outputs ≡ length b.drawing.outputs
+    -- under every row its outputs have the drawing's values
     pub right_values : (row : List ℕ) → Binary row → answers cover row ≡ output_values b.drawing row
+    -- no cell has more leaves than the width
     pub few_leaves : (c : Cell) → In c cover.cells → length (leaves_of c) ≤ b.width
+    -- no rival is earlier at any output
     pub none_earlier : (picked : ℕ → Bool) (given : ℕ → List ℕ) → Rival b.drawing.nodes b.drawing.outputs b.width picked given →
         (o : ℕ) → In o b.drawing.outputs → F.not_later (cover_arrival F cover (node_of o)) (cover_arrival F (cover_by b.drawing picked given) (node_of o)) ≡ true
 
