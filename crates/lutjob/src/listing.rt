@@ -125,7 +125,7 @@ fn rows_of(cuts: &[Cut], heap: Global) -> Result<Vec<Row>, AllocError> {
         let count = cut.leaves().len();
         rows.push(Row { count, leaves })?;
     }
-    rows.sort()?;
+    rows.sort_unstable();
     Ok(rows)
 }
 

@@ -3,11 +3,11 @@
 
 ghost use Rattle.std.specs.Prelude.{◌≤◌, length, IfOk};
 
-use anyhow::anyhow;
 use drawing::refusal::Refusal;
 use flow::listing::{cell_list, place};
 use std::io;
 use std::io::{Read, Write};
+use std::process::ExitCode;
 
 /// Fills the buffer from the start, until it is full or the input ends, and answers how many bytes it has then.
 fn fill<R: Read>(input: &mut R, buffer: &mut [u8]) -> io::Result<usize>
@@ -27,19 +27,19 @@ fn fill<R: Read>(input: &mut R, buffer: &mut [u8]) -> io::Result<usize>
     Ok(n)
 }
 
-fn refuse(rt: &HostRuntime, refusal: Refusal) -> anyhow::Result<()> {
+fn refuse(rt: &HostRuntime, refusal: Refusal) -> io::Result<ExitCode> {
     println!(rt; "refused {} at {}", refusal.number(), place(refusal))?;
-    Err(anyhow!("refused"))
+    Ok(ExitCode::FAILURE)
 }
 
-fn main(rt: HostRuntime) -> anyhow::Result<()> {
+fn main(rt: HostRuntime) -> io::Result<ExitCode> {
     let mut text = [0u8; 8193];
     let n = fill(&mut rt.stdin(), &mut text)?;
     let mut list = [0u8; 131072];
     match cell_list(&text[0..n], &mut list) {
         Ok(length) => {
             rt.stdout().write_all(&list[0..length])?;
-            Ok(())
+            Ok(ExitCode::SUCCESS)
         }
         Err(refusal) => refuse(&rt, refusal),
     }
