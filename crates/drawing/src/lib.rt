@@ -3,5 +3,6 @@
 #![tactic(auto)]
 
 pub mod node;
+pub mod nodes;
 pub mod refusal;
 pub mod table;

@@ -8,6 +8,7 @@ ghost use Rattle.drawing.specs.declared.node.Node.TheVariants.{Gate};
 
 use super::Table;
 use crate::node::{Node, Pair};
+use crate::nodes::Nodes;
 use crate::refusal::Refusal;
 
 /// The most nodes that a drawing has, node 0 included.
@@ -48,6 +49,13 @@ impl Table {
         ensures { result.now ≡ (drawing_of self.now).nodes }
     {
         &self.nodes[0..self.count]
+    }
+
+    /// The nodes, with what holds of them in every drawing.
+    pub fn sound_nodes(&self) -> Nodes<'_>
+        ensures { result ≡ (drawing_of self.now).nodes }
+    {
+        Nodes::of(self.nodes())
     }
 
     /// The outputs' literals, in their order.
