@@ -5,7 +5,6 @@ pub mod Counts
 pub mod ColumnLaws
 pub mod Sound
 pub mod Lawful
-pub mod Grow
 pub mod ReachLaws
 pub mod Lists
 pub mod ValueLaws

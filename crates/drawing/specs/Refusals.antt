@@ -1,5 +1,5 @@
--- The numbers of the refusals.
-use Rattle.std.specs.Prelude.{ℕ}
+-- The numbers of the refusals, and the text that is printed of one.
+use Rattle.std.specs.Prelude.{ℕ, List, [], ◌++◌, codes, decimal}
 use Rattle.drawing.specs.declared.refusal.Rule.{Rule}
 use Rattle.drawing.specs.declared.refusal.Rule.TheVariants.{Pattern, Figures, Literal}
 use Rattle.drawing.specs.declared.refusal.Refusal.{Refusal}
@@ -23,3 +23,20 @@ number_of TooShort = 9
 number_of (Crowded v) = 10
 number_of (BadBit i) = 11
 number_of NoSection = 12
+
+-- the place of a refusal, where it has one: a fault's byte and line, a gate, or an index
+abbrev pub place_text : Refusal → List ℕ
+place_text NodesFull = []
+place_text OutputsFull = []
+place_text BadLiteral = []
+place_text NotAGate = []
+place_text BadWidth = []
+place_text (Text f) = codes " at " ++ decimal f.byte ++ codes " line " ++ decimal f.line
+place_text TooShort = []
+place_text (Crowded v) = codes " at " ++ decimal v
+place_text (BadBit i) = codes " at " ++ decimal i
+place_text NoSection = []
+
+-- what is printed of a refusal: its number, and its place
+abbrev pub refusal_text : Refusal → List ℕ
+refusal_text r = codes "refused " ++ decimal (number_of r) ++ place_text r

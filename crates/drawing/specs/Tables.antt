@@ -1,8 +1,7 @@
 -- The drawing that a table holds.
-use Rattle.std.specs.Prelude.{take}
 use Rattle.drawing.specs.declared.table.Table.{Table}
 use Rattle.drawing.specs.Drawing.{Drawing, drawing}
 
--- the nodes and outputs of a table that count
+-- the nodes and outputs of a table
 abbrev pub drawing_of : Table → Drawing
-drawing_of t = drawing (take t.count t.nodes) (take t.output_count t.outputs)
+drawing_of t = drawing t.nodes.items t.outputs.items

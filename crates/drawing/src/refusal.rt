@@ -1,18 +1,21 @@
 //! Why a call is refused.
 
-ghost use Rattle.drawing.specs.Refusals.{number_of, rule_number};
+ghost use Rattle.drawing.specs.Refusals.{number_of, refusal_text, rule_number};
 ghost use Rattle.drawing.specs.declared.refusal.Refusal.TheVariants.{Text};
-ghost use Rattle.std.specs.Prelude.{◌≡◌};
+ghost use Rattle.std.specs.Prelude.{◌≡◌, Some};
+
+use std::error::Error;
+use std::fmt;
 
 /// The rule of the text format that a fault breaks.
-#[derive(Clone, Copy, Debug, PartialEq)]
+#[derive(Clone, Copy, Debug, PartialEq, Eq)]
 pub enum Rule {
-    /// 6: a byte that breaks the pattern.
-    Pattern,
-    /// 7: header figures outside the rules.
-    Figures,
-    /// 8: a literal outside the rules.
-    Literal,
+    /// A byte that breaks the pattern.
+    Pattern = 6,
+    /// Header figures outside the rules.
+    Figures = 7,
+    /// A literal outside the rules.
+    Literal = 8,
 }
 
 impl Rule {
@@ -20,16 +23,12 @@ impl Rule {
     pub fn number(self) -> u8
         ensures { result ≡ rule_number self }
     {
-        match self {
-            Rule::Pattern => 6,
-            Rule::Figures => 7,
-            Rule::Literal => 8,
-        }
+        self as u8
     }
 }
 
 /// A fault of a text: the rule, the byte where it shows, and that byte's line, both counted from 0.
-#[derive(Clone, Copy, Debug, PartialEq)]
+#[derive(Clone, Copy, Debug, PartialEq, Eq)]
 pub struct Fault {
     pub rule: Rule,
     pub byte: usize,
@@ -37,7 +36,7 @@ pub struct Fault {
 }
 
 /// What a call answers when it refuses.
-#[derive(Clone, Copy, Debug, PartialEq)]
+#[derive(Clone, Copy, Debug, PartialEq, Eq)]
 pub enum Refusal {
     /// 1: one more node than a drawing may have.
     NodesFull,
@@ -80,6 +79,25 @@ impl Refusal {
         }
     }
 }
+
+/// `refused`, the refusal's number, and its place where it has one.
+impl fmt::Display for Refusal {
+    ghost output = { λ r. Some (refusal_text r) };
+
+    fn fmt<W: fmt::Write>(&self, f: &mut fmt::Formatter<W>) -> fmt::Result {
+        let number = self.number();
+        match *self {
+            Refusal::Text(Fault { byte, line, .. }) => {
+                write!(f, "refused {number} at {byte} line {line}")
+            }
+            Refusal::Crowded(gate) => write!(f, "refused {number} at {gate}"),
+            Refusal::BadBit(index) => write!(f, "refused {number} at {index}"),
+            _ => write!(f, "refused {number}"),
+        }
+    }
+}
+
+impl Error for Refusal {}
 
 /// A fault of a text is passed on as the refusal of the call that read it.
 impl From<Fault> for Refusal {

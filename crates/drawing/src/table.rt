@@ -2,19 +2,17 @@
 
 pub mod calls;
 
-ghost use Rattle.std.specs.Prelude.{◌≡◌, ◌≤◌, true, length, take};
-ghost use Rattle.drawing.specs.Drawing.{drawing, lawful, most_nodes, most_outputs};
+ghost use Rattle.std.specs.Prelude.{◌≡◌, true};
+ghost use Rattle.drawing.specs.Drawing.{drawing, lawful};
 
 use crate::node::Node;
+use arrayvec::ArrayVec;
+use calls::{MOST_NODES, MOST_OUTPUTS};
 
-/// A lawful drawing in fixed arrays: `count` nodes and `output_count` outputs.
+/// A lawful drawing: its nodes by number, and its outputs' literals in their order.
 #[derive(Drop)]
 pub struct Table {
-    nodes: [Node; 256],
-    count: usize,
-    outputs: [u16; 64],
-    output_count: usize,
-    ghost room: { (length nodes ≡ most_nodes) × (length outputs ≡ most_outputs) },
-    ghost within: { (count ≤ most_nodes) × (output_count ≤ most_outputs) },
-    ghost law: { lawful (drawing (take count nodes) (take output_count outputs)) ≡ true },
+    nodes: ArrayVec<Node, MOST_NODES>,
+    outputs: ArrayVec<u16, MOST_OUTPUTS>,
+    ghost law: { lawful (drawing nodes.items outputs.items) ≡ true },
 }

@@ -1,15 +1,15 @@
 //! Making a drawing, and reading it.
 
-ghost use Rattle.std.specs.Prelude.{◌≡◌, ◌≤◌, true, ◌&&◌, take, nat_lt, slice_set};
+ghost use Rattle.std.specs.Prelude.{◌≡◌, ◌≤◌, true, ◌<◌, ◌++◌, ◌∷◌, [], length};
 ghost use Rattle.drawing.specs.Calls.{after_gate, after_input, after_output, after_retie, gate_answer, input_answer, output_answer, retie_answer, Unless};
-ghost use Rattle.drawing.specs.Drawing.{at, drawing, is_gate, lawful, most_nodes, most_outputs, names, new_drawing, node_of};
+ghost use Rattle.drawing.specs.Drawing.{at, drawing, is_gate, lawful, most_nodes, most_outputs, names, new_drawing, sound_at};
 ghost use Rattle.drawing.specs.Tables.{drawing_of};
-ghost use Rattle.drawing.specs.declared.node.Node.TheVariants.{Gate};
 
 use super::Table;
 use crate::node::{Node, Pair};
 use crate::nodes::Nodes;
 use crate::refusal::Refusal;
+use arrayvec::ArrayVec;
 
 /// The most nodes that a drawing has, node 0 included.
 pub const MOST_NODES: usize = 256;
@@ -19,36 +19,32 @@ pub const MOST_OUTPUTS: usize = 64;
 
 impl Table {
     /// Node 0 alone, and no outputs.
+    #[tactic(auto, using(crate::proofs::Lawful::lawful_new))]
     pub fn new() -> Table
         ensures { drawing_of result ≡ new_drawing }
     {
+        let mut nodes = ArrayVec::new();
+        nodes.push(Node::Constant);
         Table {
-            nodes: [Node::Constant; 256],
-            count: 1,
-            outputs: [0; 64],
-            output_count: 0,
+            nodes,
+            outputs: ArrayVec::new(),
         }
     }
 
-    /// The drawing in these arrays, of which `count` nodes and `output_count` outputs are its own.
-    pub fn of(nodes: [Node; 256], count: usize, outputs: [u16; 64], output_count: usize) -> Table
-        requires within { (count ≤ most_nodes) × (output_count ≤ most_outputs) }
-        requires law { lawful (drawing (take count nodes) (take output_count outputs)) ≡ true }
-        ensures { drawing_of result ≡ drawing (take count nodes) (take output_count outputs) }
+    /// The drawing of these nodes and outputs.
+    pub fn of(nodes: ArrayVec<Node, MOST_NODES>, outputs: ArrayVec<u16, MOST_OUTPUTS>) -> Table
+        requires { lawful (drawing nodes.items outputs.items) ≡ true }
+        ensures { drawing_of result ≡ drawing nodes.items outputs.items }
     {
-        Table {
-            nodes,
-            count,
-            outputs,
-            output_count,
-        }
+        Table { nodes, outputs }
     }
 
     /// The nodes by number, node 0 first.
+    #[inline]
     pub fn nodes(&self) -> &[Node]
         ensures { result.now ≡ (drawing_of self.now).nodes }
     {
-        &self.nodes[0..self.count]
+        self.nodes.as_slice()
     }
 
     /// The nodes, with what holds of them in every drawing.
@@ -59,39 +55,44 @@ impl Table {
     }
 
     /// The outputs' literals, in their order.
+    #[inline]
     pub fn outputs(&self) -> &[u16]
         ensures { result.now ≡ (drawing_of self.now).outputs }
     {
-        &self.outputs[0..self.output_count]
+        self.outputs.as_slice()
+    }
+
+    /// Adds a node that is sound behind the others, and answers its number.
+    #[tactic(auto, using(crate::proofs::Lawful::lawful_node))]
+    fn push(&mut self, node: Node) -> u8
+        requires room { length (drawing_of self.old).nodes < most_nodes }
+        requires sound { sound_at (length (drawing_of self.old).nodes) node ≡ true }
+        ensures number { result ≡ length (drawing_of self.old).nodes }
+        ensures after { drawing_of self.new ≡ drawing ((drawing_of self.old).nodes ++ node ∷ []) (drawing_of self.old).outputs }
+    {
+        let number = self.nodes.len() as u8;
+        self.nodes.push(node);
+        number
     }
 
     /// Adds an input, and answers its number.
+    #[tactic(auto, using(crate::proofs::Lawful::lawful_says, crate::proofs::Sound::input_right))]
     pub fn input(&mut self) -> Result<u8, Refusal>
         ensures answer { result ≡ input_answer (drawing_of self.old) }
         ensures after { drawing_of self.new ≡ after_input (drawing_of self.old) }
         ensures refused { Unless result (self.new ≡ self.old) }
     {
-        let at = self.count;
-        if at >= MOST_NODES {
+        if self.nodes.is_full() {
             return Err(Refusal::NodesFull);
         }
-        self.nodes[at] = Node::Input;
-        self.count = at + 1;
-        Ok(at as u8)
+        Ok(self.push(Node::Input))
     }
 
     /// Whether the literal names a node that exists.
     fn names(&self, literal: u16) -> bool
         ensures { result ≡ names (drawing_of self.now).nodes literal }
     {
-        usize::from(literal / 2) < self.count
-    }
-
-    /// Whether both literals name nodes that exist.
-    fn names_both(&self, pair: Pair) -> bool
-        ensures { result ≡ (names (drawing_of self.now).nodes pair.left && names (drawing_of self.now).nodes pair.right) }
-    {
-        self.names(pair.left) && self.names(pair.right)
+        usize::from(literal / 2) < self.nodes.len()
     }
 
     /// Adds a gate, and answers its number.
@@ -100,53 +101,38 @@ impl Table {
         ensures after { drawing_of self.new ≡ after_gate (drawing_of self.old) pair }
         ensures refused { Unless result (self.new ≡ self.old) }
     {
-        let at = self.count;
-        if at >= MOST_NODES {
+        if self.nodes.is_full() {
             return Err(Refusal::NodesFull);
         }
-        if !self.names_both(pair) {
+        if !(self.names(pair.left) && self.names(pair.right)) {
             return Err(Refusal::BadLiteral);
         }
-        self.nodes[at] = Node::Gate(pair);
-        self.count = at + 1;
-        Ok(at as u8)
+        Ok(self.push(Node::Gate(pair)))
     }
 
     /// Adds an output, and answers its place.
+    #[tactic(auto, using(crate::proofs::Lawful::lawful_output))]
     pub fn output(&mut self, literal: u16) -> Result<u8, Refusal>
         ensures answer { result ≡ output_answer (drawing_of self.old) literal }
         ensures after { drawing_of self.new ≡ after_output (drawing_of self.old) literal }
         ensures refused { Unless result (self.new ≡ self.old) }
     {
-        let place = self.output_count;
-        if place >= MOST_OUTPUTS {
+        if self.outputs.is_full() {
             return Err(Refusal::OutputsFull);
         }
         if !self.names(literal) {
             return Err(Refusal::BadLiteral);
         }
-        self.outputs[place] = literal;
-        self.output_count = place + 1;
-        Ok(place as u8)
+        let place = self.outputs.len() as u8;
+        self.outputs.push(literal);
+        Ok(place)
     }
 
     /// Whether the number is a gate's.
     pub fn is_gate(&self, v: u8) -> bool
         ensures { result ≡ is_gate (at (drawing_of self.now).nodes v) }
     {
-        let nodes = self.nodes();
-        let v = v as usize;
-        v < nodes.len() && nodes[v].is_gate()
-    }
-
-    /// Changes one record of the table.
-    fn tie(&mut self, v: u8, pair: Pair)
-        requires gate { is_gate (at (drawing_of self.old).nodes v) ≡ true }
-        requires below { (nat_lt (node_of pair.left) v && nat_lt (node_of pair.right) v) ≡ true }
-        ensures { drawing_of self.new ≡ drawing (slice_set (drawing_of self.old).nodes v (Gate pair)) (drawing_of self.old).outputs }
-    {
-        let record = &mut self.nodes[v as usize];
-        *record = Node::Gate(pair);
+        matches!(self.nodes().get(usize::from(v)), Some(Node::Gate(_)))
     }
 
     /// Gives a gate two new literals.
@@ -158,17 +144,10 @@ impl Table {
         if !self.is_gate(gate) {
             return Err(Refusal::NotAGate);
         }
-        if !are_below(pair, gate) {
+        if !pair.is_below(gate) {
             return Err(Refusal::BadLiteral);
         }
-        self.tie(gate, pair);
+        self.nodes[usize::from(gate)] = Node::Gate(pair);
         Ok(())
     }
-}
-
-/// Whether both literals name nodes below `v`.
-fn are_below(pair: Pair, v: u8) -> bool
-    ensures { result ≡ (nat_lt (node_of pair.left) v && nat_lt (node_of pair.right) v) }
-{
-    pair.left / 2 < v as u16 && pair.right / 2 < v as u16
 }

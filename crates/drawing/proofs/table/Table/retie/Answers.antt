@@ -1,0 +1,15 @@
+use Rattle.std.proofs.Common.{set, sym, length-set}
+use Rattle.arrayvec.proofs.ArrayVecLemmas.{items-with_items}
+use Rattle.drawing.specs.declared.node.Node.TheVariants.{Gate}
+use Rattle.drawing.proofs.Lawful.{lawful_tie}
+use Rattle.drawing.proofs.table.Table.retie.Goals as goal
+
+pub invariant_of-self : goal.invariant_of-self
+invariant_of-self c =
+    let t = c.args.self.now in
+    let tied = set t.nodes.items c.args.gate (Gate c.args.pair) in
+    let kept = items-with_items t.nodes tied (length-set t.nodes.items c.args.gate (Gate c.args.pair)) in
+    record {
+      law = rw (c.deref_mut.ensures.value, c.from.ensures, kept)
+          (lawful_tie t.nodes.items t.outputs.items c.args.gate c.args.pair t.law (sym c.if-not-is_gate.ensures) (sym c.if-not-is_below.ensures));
+    }
