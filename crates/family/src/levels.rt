@@ -1,41 +1,37 @@
 //! Arrivals as levels: how many cells stand in a row.
 
-ghost use Rattle.family.specs.Supplied.{is_width, levels, MadeFor};
-ghost use Rattle.std.specs.Prelude.{◌≡◌, true};
+ghost use Rattle.family.specs.Supplied.{levels, MadeFor};
 ghost use Rattle.std.proofs.Common.{rules, arith};
 
 use crate::Family;
+use crate::width::Width;
 use drawing::refusal::Refusal;
 
 /// Each cell is one level later than its latest leaf, up to level 65,535.
 #[derive(Clone, Copy)]
 pub struct Levels {
-    width: u8,
-    ghost known: { is_width width ≡ true },
+    width: Width,
 }
 
 impl Levels {
     /// The family of this width, which is 2 to 5.
     pub fn new(width: u8) -> Result<Levels, Refusal>
-        ensures { MadeFor (λ f. f.width) width result }
+        ensures { MadeFor (λ f. f.width.leaves) width result }
     {
-        if 2 <= width && width <= 5 {
-            Ok(Levels { width })
-        } else {
-            Err(Refusal::BadWidth)
-        }
+        let width = Width::try_from(width)?;
+        Ok(Levels { width })
     }
 }
 
 impl Family for Levels {
     type Arrival = u16;
 
-    ghost delay = { λ f. levels f.width };
+    ghost delay = { λ f. levels f.width.leaves };
 
     ghost lawful = { first_of (Prim.search rules, Prim.grind (arith, Self.row.coded.inj)) };
 
     fn width(&self) -> u8 {
-        self.width
+        u8::from(self.width)
     }
 
     fn start(&self) -> u16 {

@@ -4,6 +4,7 @@
 pub mod fold;
 pub mod levels;
 pub mod pins;
+pub mod width;
 
 ghost use Rattle.family.specs.Family.{Delay, Laws};
 ghost use Rattle.std.specs.Prelude.{◌≡◌};

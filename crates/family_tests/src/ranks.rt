@@ -1,12 +1,12 @@
 //! Arrivals that are compared by their rank alone, and carry a tag that tells where they come from.
 
-ghost use Rattle.family.specs.Supplied.{is_width};
+ghost use Rattle.family.specs.Supplied.{MadeFor};
 ghost use Rattle.family_tests.specs.Ranks.{ranks};
-ghost use Rattle.std.specs.Prelude.{◌≡◌, true};
 ghost use Rattle.std.proofs.Common.{rules, arith};
 
 use drawing::refusal::Refusal;
 use family::Family;
+use family::width::Width;
 
 /// When a value is there: the number of cells in a row, and a tag. Of two arrivals with one rank neither is earlier,
 /// whatever their tags are.
@@ -20,30 +20,28 @@ pub struct Rank {
 /// tag spells, in base 6, the numbers of leaves on one latest way.
 #[derive(Clone, Copy)]
 pub struct Ranks {
-    width: u8,
-    ghost known: { is_width width ≡ true },
+    width: Width,
 }
 
 impl Ranks {
     /// The family of this width, which is 2 to 5.
-    pub fn new(width: u8) -> Result<Ranks, Refusal> {
-        if 2 <= width && width <= 5 {
-            Ok(Ranks { width })
-        } else {
-            Err(Refusal::BadWidth)
-        }
+    pub fn new(width: u8) -> Result<Ranks, Refusal>
+        ensures { MadeFor (λ f. f.width.leaves) width result }
+    {
+        let width = Width::try_from(width)?;
+        Ok(Ranks { width })
     }
 }
 
 impl Family for Ranks {
     type Arrival = Rank;
 
-    ghost delay = { λ f. ranks f.width };
+    ghost delay = { λ f. ranks f.width.leaves };
 
     ghost lawful = { first_of (Prim.search rules, Prim.grind (arith, Self.row.coded.inj)) };
 
     fn width(&self) -> u8 {
-        self.width
+        u8::from(self.width)
     }
 
     fn start(&self) -> Rank {

@@ -2,7 +2,7 @@
 
 use crate::ranks::{Rank, Ranks};
 use family::Family;
-use family::fold::{cell_arrival, latest};
+use family::fold::Arrivals;
 use family::levels::Levels;
 use family::pins::Pins;
 use std::test::Fail;
@@ -44,11 +44,15 @@ fn levels_and_pins_stop(rt: HostRuntime) -> Result<(), Fail> {
 fn the_first_of_the_latest(rt: HostRuntime) -> Result<(), Fail> {
     let family = Ranks::new(4)?;
     let table = [at(0, 0), at(2, 5), at(1, 9), at(2, 7), at(0, 3), at(2, 1)];
-    assert_eq!(rt; latest(&family, &table, &[]), at(0, 0));
-    assert_eq!(rt; latest(&family, &table, &[1, 2, 3]), at(2, 5));
-    assert_eq!(rt; latest(&family, &table, &[2, 3, 5]), at(2, 7));
-    assert_eq!(rt; latest(&family, &table, &[2, 4]), at(1, 9));
-    assert_eq!(rt; cell_arrival(&family, &table, &[2, 3, 5]), at(3, 45));
-    assert_eq!(rt; cell_arrival(&family, &table, &[]), at(1, 0));
+    let arrivals = Arrivals {
+        family: &family,
+        table: &table,
+    };
+    assert_eq!(rt; arrivals.latest(&[]), at(0, 0));
+    assert_eq!(rt; arrivals.latest(&[1, 2, 3]), at(2, 5));
+    assert_eq!(rt; arrivals.latest(&[2, 3, 5]), at(2, 7));
+    assert_eq!(rt; arrivals.latest(&[2, 4]), at(1, 9));
+    assert_eq!(rt; arrivals.cell(&[2, 3, 5]), at(3, 45));
+    assert_eq!(rt; arrivals.cell(&[]), at(1, 0));
     Ok(())
 }
