@@ -110,12 +110,13 @@ class Function:
         return "%s::%s" % (self.owner, self.name) if self.owner else self.name
 
 
-IMPL = re.compile(r"^impl(?:<[^>]*>)? (?:([\w<>:, ]+) for )?(\w+)[^{]*?\s*\{", re.M)
+IMPL = re.compile(r"^impl(?:<[^>]*>)? (?:([\w<>:, ]+) for )?(\w+|\([\w, ]+\))[^{]*?\s*\{", re.M)
 
 
 def impl_name(trait, name):
-    """The name that the check gives an impl: the type's, and behind it the trait's with its arguments, as RefusalFromFault."""
+    """The name that the check gives an impl: the type's, and behind it the trait's with its arguments, as RefusalFromFault, U8Field, Tuple2Field."""
     words = re.sub(r"\w+::", "", trait or "")
+    name = "Tuple%d" % (name.count(",") + 1) if name[0] == "(" else name[0].upper() + name[1:]
     return name + "".join(re.findall(r"\w+", words))
 
 

@@ -1,11 +1,10 @@
 -- Reading a number digit by digit.
-use Rattle.std.proofs.Common.{◌≡◌, ℕ, zero, suc, ◌+◌, ◌-◌, ◌*◌, ◌<◌, ◌≤◌, Bool, true, false, eqb, List, [], ◌∷◌, length, get_or, decimal, sym, refl, ap, ◌∙◌, arith, rules, eqb-true}
-use Rattle.std.proofs.lemmas.Bool.{and_parts, and_from}
+use Rattle.std.proofs.Common.{◌≡◌, ℕ, zero, suc, ◌+◌, ◌-◌, ◌*◌, ◌<◌, ◌≤◌, Bool, true, false, Option, Ok, Err, Result, List, [], ◌∷◌, length, get_or, decimal, sym, ap, ◌∙◌, subst, arith, rules}
 use Rattle.std.proofs.lemmas.Str.Parse.{IsNumeralModel, numerals_by_fold}
-use Rattle.std.proofs.lemmas.Fmt.{decimal_digit, decimal-digits_value, digits_value-decimal, digits_decimal, decimal_nonempty, first_decimal}
-use Rattle.std.specs.Char.{is_ascii_digit}
+use Rattle.std.proofs.lemmas.Fmt.{decimal_digit, decimal-digits_value, digits_value-decimal, digits_decimal, decimal_injective, decimal_nonempty, first_decimal}
+use Rattle.std.specs.Result.{OkIff, result_ok}
 use Rattle.script.specs.Fields.{are_digits}
-use Rattle.script.specs.Names.{is_word}
+use Rattle.script.specs.Reads.{Reads}
 
 -- the number that n becomes when digits follow it
 abbrev pub read_on : ℕ → List ℕ → ℕ
@@ -27,8 +26,8 @@ no_number ds x small f e =
     search rules
 
 -- a number is not less than what is read of it so far
-pub too_large : (ds rest : List ℕ) (n most x : ℕ) → most ≤ 65536 → read_on n rest ≡ read_on 0 ds → most < n → x ≤ most → decimal x ≡ ds → ⊥
-too_large ds rest n most x small e l f h =
+pub too_large : (ds rest : List ℕ) (n x : ℕ) → read_on n rest ≡ read_on 0 ds → 65536 < n → x ≤ 65536 → decimal x ≡ ds → ⊥
+too_large ds rest n x e l f h =
     let v : read_on 0 ds ≡ x = ap (read_on 0) (sym h) ∙ digits_value-decimal own x (omega arith) in
     omega (arith, read_grows n rest)
 
@@ -41,16 +40,12 @@ pub not_plain : (ds : List ℕ) (x : ℕ) → x ≤ 65536 → get_or ds 0 0 ≡ 
 not_plain ds zero small e l h = omega (arith, ap length h, ap length (decimal_digit 0 (omega arith)))
 not_plain ds (suc x) small e l h = omega (arith, ap (λ t. get_or t 0 0) h, first_decimal (suc x) (omega arith) (omega arith))
 
-pub not_empty : (ds : List ℕ) (x : ℕ) → x ≤ 65536 → true ≡ eqb (length ds) 0 → decimal x ≡ ds → ⊥
-not_empty ds x small e h = omega (arith, eqb-true (length ds) 0 (sym e), ap length h, decimal_nonempty x (omega arith))
+pub not_empty : (ds : List ℕ) (x : ℕ) → x ≤ 65536 → length ds < 1 → decimal x ≡ ds → ⊥
+not_empty ds x small e h = omega (arith, ap length h, decimal_nonempty x (omega arith))
 
--- a number is a word
-digits_word : (ds : List ℕ) → are_digits ds ≡ true → is_word ds ≡ true
-digits_word [] h = refl
-digits_word (d ∷ ds) h =
-    let p = and_parts (is_ascii_digit d) (are_digits ds) h in
-    let q : is_ascii_digit d ≡ true = p.0 in
-    and_from _ _ (search rules) (digits_word ds p.1)
-
-pub number_word : (n : ℕ) → n ≤ 65536 → is_word (decimal n) ≡ true
-number_word n small = digits_word (decimal n) (digits_decimal own n (omega arith))
+-- a number read as one of fewer bits: it is refused where it does not fit
+pub narrowed : {E : Type 0} (k : ℕ) (ds : List ℕ) (n : ℕ) (r : Result ℕ E) (o : Option ℕ) → k ≤ 65536 → (n ≤ 65536) × (decimal n ≡ ds) → OkIff r (n < k) n → o ≡ result_ok r → Reads (λ x. x < k) decimal ds o
+narrowed k ds n (Ok x) o small h i e = subst (λ z. Reads (λ y. y < k) decimal ds z) (sym e) (subst (λ z. z < k) (sym i.1) i.0, ap decimal i.1 ∙ h.1)
+narrowed k ds n (Err x) o small h i e =
+    subst (λ z. Reads (λ y. y < k) decimal ds z) (sym e)
+    (λ x l d. let same = decimal_injective x n (omega arith) (omega (arith, h.0)) (d ∙ sym h.1) in i (subst (λ z. z < k) same l))

@@ -1,5 +1,6 @@
 -- A loop over a list that leaves at the first element that fails a test: what is left gives the answer.
-use Rattle.std.proofs.Common.{◌≡◌, ℕ, ◌+◌, ◌<◌, ◌≤◌, Bool, true, false, ◌&&◌, List, length, get_or, drop, sym, ap, ◌∙◌}
+use Rattle.std.proofs.Common.{◌≡◌, ℕ, ◌+◌, ◌<◌, ◌≤◌, Bool, true, false, ◌&&◌, List, [], ◌∷◌, suc, length, get_or, drop, refl, sym, ap, ◌∙◌, arith}
+use Rattle.std.proofs.lemmas.Bool.{and_from}
 use Rattle.std.proofs.lemmas.List.{at_drop_more, at_drop_all}
 use Rattle.drawing.specs.Sets.{every}
 
@@ -17,3 +18,8 @@ module _ {X : Type 0} (p : X → Bool) (xs : List X) (i : ℕ) where
 
   pub every_all : every p (drop i xs) ≡ every p xs → length xs ≤ i → true ≡ every p xs
   every_all inv l = sym (at_drop_all (every p) xs i l) ∙ inv
+
+-- a test that each element passes
+pub every_each : {X : Type 0} (p : X → Bool) (xs : List X) (d : X) → ((k : ℕ) → k < length xs → p (get_or xs k d) ≡ true) → every p xs ≡ true
+every_each p [] d h = refl
+every_each p (x ∷ xs) d h = and_from _ _ (h 0 (omega arith)) (every_each p xs d (λ k l. h (suc k) (omega arith)))

@@ -2,14 +2,13 @@
 use Rattle.std.proofs.Common.{◌≡◌, ℕ, true, List, [], ◌∷◌, ◌++◌, get_or, None, codes, Option, sym, refl, ap, subst, Bor, rules}
 use Rattle.drawing.specs.declared.node.Pair.{Pair}
 use Rattle.script.specs.declared.command.Kind.{Kind}
-use Rattle.script.specs.declared.command.Kind.TheVariants.{Levels, Pins}
 use Rattle.script.specs.declared.command.Command.{Command}
 use Rattle.script.specs.declared.command.Command.TheVariants.{Input, Gate, Output, Retie, Width, Load, Map, Arrivals, Cover, Evaluate, Write, Kept, List as ListOf, Comment}
 use Rattle.script.specs.declared.verb.Verb.{Verb}
 use Rattle.script.specs.declared.verb.Verb.TheVariants as verb
 use Rattle.script.specs.Fields.{then, IsTie, tie_text, IsFamily, family_text, row_text}
 use Rattle.script.specs.Lines.{Fits, line_of}
-use Rattle.script.specs.Names.{is_word, kind_name, verb_name}
+use Rattle.script.specs.Names.{is_word, verb_name}
 use Rattle.script.specs.Reads.{Reads}
 use Rattle.script.proofs.Splits.{Cut, no_first, no_only}
 
@@ -56,10 +55,6 @@ pub no_map : (v : Verb) (t : List ℕ) (r : Option Command) → v ≡ verb.Map �
 no_map v t r is none h =
     subst (λ z. Reads Fits line_of (then (verb_name z) t) r) (sym is)
     (subst (λ o. Reads Fits line_of (then (codes "map") t) o) (sym none) (map_none t h))
-
-pub kind_word : (k : Kind) → is_word (kind_name k) ≡ true
-kind_word Levels = refl
-kind_word Pins = refl
 
 -- a line whose first word is none of the names, and that is no comment, is no command
 module _ (line w : List ℕ) (rest : Option (Bor (List ℕ))) (word : is_word w ≡ true) (cut : Cut line w rest) (none : (v : Verb) → Unit {0} → verb_name v ≡ w → ⊥) (plain : get_or line 0 0 ≡ 35 → ⊥) where

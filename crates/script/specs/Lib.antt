@@ -2,3 +2,4 @@ pub mod Fields
 pub mod Lines
 pub mod Names
 pub mod Reads
+pub mod Words

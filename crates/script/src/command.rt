@@ -3,14 +3,14 @@
 use drawing::node::Pair;
 
 /// The name of a family.
-#[derive(Clone, Copy)]
+#[derive(Clone, Copy, Debug, PartialEq)]
 pub enum Kind {
     Levels,
     Pins,
 }
 
 /// A command of a script.
-#[derive(Clone, Copy)]
+#[derive(Clone, Copy, Debug, PartialEq)]
 pub enum Command<'a> {
     Input,
     Gate(Pair),

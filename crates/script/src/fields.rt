@@ -1,101 +1,126 @@
 //! The fields behind the first word.
 
-ghost use Rattle.std.specs.Prelude.{◌≡◌, ◌<◌, true, length, decimal};
-ghost use Rattle.script.specs.Fields.{are_digits, family_text, IsByte, IsFamily, IsLiteral, IsPair, IsSize, IsTie, pair_text, tie_text};
-ghost use Rattle.script.specs.Names.{kind_name};
+ghost use Rattle.std.specs.Prelude.{◌≡◌, ◌<◌, ℕ, List, true, length, decimal};
+ghost use Rattle.script.specs.Fields.{are_digits, IsByte, IsLiteral, IsPair, IsSize, pair_text, then};
+ghost use Rattle.script.specs.Names.{is_word, kind_name};
 ghost use Rattle.script.specs.Reads.{Reads};
+ghost use Rattle.script.specs.Words.{byte_word, kind_word, literal_word};
 
 use crate::command::Kind;
 use crate::number::number;
-use crate::word::{is, split};
+use crate::word::split;
 use drawing::node::Pair;
 
-/// The most bytes of a text that a line announces.
-const MOST_BYTES: usize = 65_536;
+/// What a field of a line is read as.
+pub trait Field: Sized + Drop {
+    // What a field may say.
+    ghost IsField: { Self → Type 0 };
+
+    // How it is written.
+    ghost field_text: { Self → List ℕ };
+
+    /// What this text says.
+    fn read(text: &[u8]) -> Option<Self>
+        ensures { Reads IsField field_text text.now result };
+}
+
+/// A field that is one word.
+pub trait Word: Field {
+    // No space is in it.
+    ghost one_word: { (x : Self) → Self.IsField x → is_word (Self.field_text x) ≡ true };
+}
 
 /// A number of 8 bits.
-pub fn byte(text: &[u8]) -> Option<u8>
-    ensures { Reads IsByte decimal text.now result }
-{
-    let n = number(text, 255)?;
-    Some(n as u8)
+impl Field for u8 {
+    ghost IsField = { IsByte };
+
+    ghost field_text = { decimal };
+
+    fn read(text: &[u8]) -> Option<u8> {
+        u8::try_from(number(text)?).ok()
+    }
+}
+
+impl Word for u8 {
+    ghost one_word = { byte_word };
 }
 
 /// A number of 16 bits.
-pub fn literal(text: &[u8]) -> Option<u16>
-    ensures { Reads IsLiteral decimal text.now result }
-{
-    let n = number(text, 65_535)?;
-    Some(n as u16)
+impl Field for u16 {
+    ghost IsField = { IsLiteral };
+
+    ghost field_text = { decimal };
+
+    fn read(text: &[u8]) -> Option<u16> {
+        u16::try_from(number(text)?).ok()
+    }
+}
+
+impl Word for u16 {
+    ghost one_word = { literal_word };
 }
 
 /// A number of bytes.
-pub fn size(text: &[u8]) -> Option<usize>
-    ensures { Reads IsSize decimal text.now result }
-{
-    number(text, MOST_BYTES)
+impl Field for usize {
+    ghost IsField = { IsSize };
+
+    ghost field_text = { decimal };
+
+    fn read(text: &[u8]) -> Option<usize> {
+        number(text)
+    }
+}
+
+/// The name of a family.
+impl Field for Kind {
+    ghost IsField = { λ _. Unit {0} };
+
+    ghost field_text = { kind_name };
+
+    fn read(text: &[u8]) -> Option<Kind> {
+        match text {
+            b"levels" => Some(Kind::Levels),
+            b"pins" => Some(Kind::Pins),
+            _ => None,
+        }
+    }
+}
+
+impl Word for Kind {
+    ghost one_word = { kind_word };
+}
+
+/// A word and what stands behind it, a space between them.
+impl<A: Word, B: Field> Field for (A, B) {
+    ghost IsField = { λ x. A.IsField x.0 × B.IsField x.1 };
+
+    ghost field_text = { λ x. then (A.field_text x.0) (B.field_text x.1) };
+
+    fn read(text: &[u8]) -> Option<(A, B)> {
+        let (first, rest) = split(text);
+        let first = A::read(first)?;
+        let second = B::read(rest?)?;
+        Some((first, second))
+    }
 }
 
 /// Two literals.
-pub fn pair(text: &[u8]) -> Option<Pair>
-    ensures { Reads IsPair pair_text text.now result }
-{
-    let (left, rest) = split(text);
-    let left = literal(left)?;
-    let right = literal(rest?)?;
-    Some(Pair { left, right })
-}
+impl Field for Pair {
+    ghost IsField = { IsPair };
 
-/// A gate and two literals.
-pub fn tie(text: &[u8]) -> Option<(u8, Pair)>
-    ensures { Reads IsTie tie_text text.now result }
-{
-    let (gate, rest) = split(text);
-    let gate = byte(gate)?;
-    let pair = pair(rest?)?;
-    Some((gate, pair))
-}
+    ghost field_text = { pair_text };
 
-/// A family's name.
-fn kind_named(word: &[u8]) -> Option<Kind>
-    ensures { Reads (λ _. Unit {0}) kind_name word.now result }
-{
-    if is(word, b"levels") {
-        return Some(Kind::Levels);
+    fn read(text: &[u8]) -> Option<Pair> {
+        let (left, right) = Field::read(text)?;
+        Some(Pair { left, right })
     }
-    if is(word, b"pins") {
-        return Some(Kind::Pins);
-    }
-    None
-}
-
-/// A family's name and a width.
-pub fn family(text: &[u8]) -> Option<(Kind, u8)>
-    ensures { Reads IsFamily family_text text.now result }
-{
-    let (name, rest) = split(text);
-    let kind = kind_named(name)?;
-    let width = byte(rest?)?;
-    Some((kind, width))
-}
-
-/// Whether all are digits.
-fn all_digits(text: &[u8]) -> bool
-    ensures { result ≡ are_digits text.now }
-{
-    for byte in text {
-        if !byte.is_ascii_digit() {
-            return false;
-        }
-    }
-    true
 }
 
 /// One digit or more.
 pub fn row(text: &[u8]) -> Option<&[u8]>
     ensures { Reads (λ t. (0 < length t.now) × (are_digits t.now ≡ true)) (λ x. x.now) text.now result }
 {
-    if text.is_empty() || !all_digits(text) {
+    if text.is_empty() || !text.iter().all(u8::is_ascii_digit) {
         return None;
     }
     Some(text)

@@ -7,7 +7,7 @@ ghost use Rattle.script.specs.Reads.{Reads};
 ghost use Rattle.std.specs.Prelude.{◌≡◌, ◌∷◌, MatchOption, ◌≢◌, slice_index};
 
 use crate::command::Command;
-use crate::fields::{byte, family, literal, pair, row, size, tie};
+use crate::fields::{Field, row};
 use crate::verb::Verb;
 use crate::word::split;
 
@@ -37,20 +37,20 @@ fn with_fields(verb: Verb, rest: &[u8]) -> Option<Command<'_>>
     ensures { Reads Fits line_of (then (verb_name verb) rest.now) result }
 {
     match verb {
-        Verb::Gate => Some(Command::Gate(pair(rest)?)),
-        Verb::Output => Some(Command::Output(literal(rest)?)),
+        Verb::Gate => Some(Command::Gate(Field::read(rest)?)),
+        Verb::Output => Some(Command::Output(Field::read(rest)?)),
         Verb::Retie => {
-            let (gate, pair) = tie(rest)?;
+            let (gate, pair) = Field::read(rest)?;
             Some(Command::Retie(gate, pair))
         }
-        Verb::Width => Some(Command::Width(byte(rest)?)),
-        Verb::Load => Some(Command::Load(size(rest)?)),
+        Verb::Width => Some(Command::Width(Field::read(rest)?)),
+        Verb::Load => Some(Command::Load(Field::read(rest)?)),
         Verb::Map => {
-            let (kind, width) = family(rest)?;
+            let (kind, width) = Field::read(rest)?;
             Some(Command::Map(kind, width))
         }
         Verb::Evaluate => Some(Command::Evaluate(row(rest)?)),
-        Verb::List => Some(Command::List(byte(rest)?)),
+        Verb::List => Some(Command::List(Field::read(rest)?)),
         Verb::Input | Verb::Arrivals | Verb::Cover | Verb::Write | Verb::Kept => None,
     }
 }
@@ -59,10 +59,10 @@ fn with_fields(verb: Verb, rest: &[u8]) -> Option<Command<'_>>
 fn comment(line: &[u8]) -> Option<&[u8]>
     ensures { MatchOption result ((slice_index line.now 0 ≢ 35)) (λ t. 35 ∷ t.now ≡ line.now) }
 {
-    if line.is_empty() || line[0] != b'#' {
-        return None;
+    match line {
+        [b'#', text @ ..] => Some(text),
+        _ => None,
     }
-    Some(&line[1..])
 }
 
 /// The command that a line is, without its end.

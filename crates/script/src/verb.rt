@@ -3,7 +3,7 @@
 pub mod named;
 
 /// What a line asks for.
-#[derive(Clone, Copy)]
+#[derive(Clone, Copy, Debug, PartialEq)]
 pub enum Verb {
     Input,
     Gate,

@@ -1,4 +1,4 @@
-use Rattle.std.proofs.Common.{◌+◌, drop, sym, refl, ◌∙◌, arith}
+use Rattle.std.proofs.Common.{◌+◌, ◌*◌, drop, sym, refl, ap, ◌∙◌}
 use Rattle.std.specs.Char.{is_ascii_digit}
 use Rattle.std.proofs.lemmas.List.{at_drop_more, at_drop_all}
 use Rattle.script.proofs.Scans.{every_lost, every_next, every_all}
@@ -7,23 +7,25 @@ use Rattle.script.proofs.number.value.Goals as goal
 
 pub returns-then-not-is_ascii_digit : goal.returns-then-not-is_ascii_digit
 returns-then-not-is_ascii_digit c x l e =
-    no_number _ x (omega arith)
+    no_number _ x l
     (every_lost is_ascii_digit _ c.loop-byte.byte-index _ 0 c.loop-byte-test.true refl c.loop-byte.invariant.0
     (sym c.if-not-is_ascii_digit.ensures.value))
     e
 
-pub returns-then-n-most : goal.returns-then-n-most
-returns-then-n-most c x l e =
-    too_large _ (drop (c.loop-byte.byte-index + 1) c.args.digits.now) _ c.args.most x c.requires.small
-    (sym (at_drop_more (read_on c.loop-byte.n) _ c.loop-byte.byte-index 0 c.loop-byte-test.true) ∙ c.loop-byte.invariant.1)
-    c.if-n-most.true l e
+pub returns-then-n-gt-MOST : goal.returns-then-n-gt-MOST
+returns-then-n-gt-MOST c x l e =
+    too_large _ (drop (c.loop-byte.byte-index + 1) c.args.digits.now) _ x
+    (ap (λ d. read_on (c.loop-byte.n * 10 + d) (drop (c.loop-byte.byte-index + 1) c.args.digits.now)) c.from.ensures
+    ∙ sym (at_drop_more (read_on c.loop-byte.n) _ c.loop-byte.byte-index 0 c.loop-byte-test.true) ∙ c.loop-byte.invariant.1)
+    c.if-n-gt-MOST.true l e
 
 pub loop-byte-preserved : goal.loop-byte-preserved
 loop-byte-preserved c = (
   every_next is_ascii_digit _ c.loop-byte.byte-index _ 0 c.loop-byte-test.true refl c.loop-byte.invariant.0
       (sym c.if-not-is_ascii_digit.ensures.value),
-  sym (at_drop_more (read_on c.loop-byte.n) _ c.loop-byte.byte-index 0 c.loop-byte-test.true) ∙ c.loop-byte.invariant.1,
-  c.if-n-most.false,
+  ap (λ d. read_on (c.loop-byte.n * 10 + d) (drop (c.loop-byte.byte-index + 1) c.args.digits.now)) c.from.ensures
+      ∙ sym (at_drop_more (read_on c.loop-byte.n) _ c.loop-byte.byte-index 0 c.loop-byte-test.true) ∙ c.loop-byte.invariant.1,
+  c.if-n-gt-MOST.false,
 )
 
 pub returns : goal.returns
@@ -32,5 +34,5 @@ returns c = (
   read_all _ _ c.requires.some c.requires.plain
       (sym (every_all is_ascii_digit _ c.loop-byte.byte-index c.loop-byte.invariant.0 c.loop-byte-test.false))
       (sym (sym (at_drop_all (read_on c.loop-byte.n) _ c.loop-byte.byte-index c.loop-byte-test.false) ∙ c.loop-byte.invariant.1))
-      (omega (arith, c.loop-byte.invariant.2)),
+      c.loop-byte.invariant.2,
 )

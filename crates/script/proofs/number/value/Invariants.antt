@@ -7,4 +7,4 @@ abbrev pub invariant-loop-byte : goal.invariant-loop-byte
 invariant-loop-byte l =
     (are_digits (drop l.byte-index l.digits) ≡ are_digits l.digits)
     × (read_on l.n (drop l.byte-index l.digits) ≡ read_on 0 l.digits)
-    × (l.n ≤ l.most)
+    × (l.n ≤ 65536)

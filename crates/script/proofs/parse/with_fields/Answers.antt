@@ -7,4 +7,4 @@ returns-in_err-gate-in-Retie c =
 
 pub returns-in_err-kind-in-Map : goal.returns-in_err-kind-in-Map
 returns-in_err-kind-in-Map c =
-    no_map _ _ _ c.in-Map.is c.from_residual-in_err-kind-in-Map.ensures c.in_err-kind-in-Map.ensures
+    no_map _ _ _ c.in-Map.is c.from_residual-in_err-kind-in-Map.ensures (λ x f. c.in_err-kind-in-Map.ensures x (tt, f))
