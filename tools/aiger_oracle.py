@@ -88,13 +88,16 @@ def shown(result):
     return "ok %d %d %d" % (nodes.count("input"), len(outputs), len(nodes) - 1 - nodes.count("input"))
 
 
+RULES = {"Pattern": 6, "Figures": 7, "Literal": 8}
+
+
 def table():
-    """The rows of the tests' table that stand there with their expected answers."""
+    """The rows of the tests' tables: texts that are accepted, and texts with their faults."""
     source = open("crates/aiger_tests/src/texts.rt", encoding="utf-8").read()
-    row = r'(accepted|refused)\(\s*b"((?:[^"\\]|\\.)*)"(?:,\s*(\d+),\s*(\d+),\s*(\d+))?,?\s*\)'
-    for kind, text, *numbers in re.findall(row, source):
-        text = text.encode("latin-1").decode("unicode_escape")
-        yield kind, text, tuple(int(n) for n in numbers if n)
+    row = r'^    (?:"((?:[^"\\]|\\.)*)",|\("((?:[^"\\]|\\.)*)", Rule::(\w+), (\d+), (\d+)\),)$'
+    for good, faulty, rule, byte, line in re.findall(row, source, re.MULTILINE):
+        text = (good or faulty).encode("latin-1").decode("unicode_escape")
+        yield ("refused", text, (RULES[rule], int(byte), int(line))) if rule else ("accepted", text, ())
 
 
 def main():
