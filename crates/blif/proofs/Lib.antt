@@ -1,4 +1,3 @@
-pub mod Wrote
 pub mod Texts
 pub mod Pieces
 pub mod Read

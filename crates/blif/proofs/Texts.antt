@@ -1,16 +1,31 @@
 -- One more name, digit, line or section.
-use Rattle.std.proofs.Common.{◌≡◌, ℕ, zero, suc, ◌+◌, ◌-◌, ◌/◌, ◌%◌, ◌<◌, ◌≤◌, false, cond, eqb, List, [], ◌∷◌, ◌++◌, map, length, get_or, take, codes, sym, refl, ap, ◌∙◌, add-zero, zero-add, add-one, arith}
+use Rattle.std.proofs.Common.{◌≡◌, ℕ, zero, suc, ◌+◌, ◌-◌, ◌/◌, ◌%◌, ◌<◌, ◌≤◌, false, cond, eqb, ltb, leb, List, drop, is_ok, Ok, Err, [], ◌∷◌, ◌++◌, map, length, get_or, take, codes, decimal, sym, refl, ap, ◌∙◌, add-zero, zero-add, add-one, arith}
 use Rattle.std.specs.List.{range_with_len, flat_map}
 use Rattle.std.proofs.lemmas.List.FromFn.{map-range_with_len_more}
 use Rattle.std.proofs.lemmas.List.Elements.{filter-append}
 use Rattle.std.proofs.lemmas.List.{map-id, map_more, flat_map_more, length-append, length-map, get_or-map, get_or_append_left, get_or-append_right, get_or_at, append-nil}
+use Rattle.std.proofs.lemmas.Bool.{cond-true, cond-false, cond_both, ltb-true, ltb-false, lt-ltb, lt-leb, le-leb}
+use Rattle.std.proofs.lemmas.Fmt.{decimal_digit, decimal_step}
 use Rattle.drawing.specs.Sets.{keep}
 use Rattle.cells.specs.declared.cell.Cell.{Cell}
 use Rattle.cells.specs.Truth.{bit}
 use Rattle.cells.specs.Netlist.{Netlist}
 use Rattle.cells.proofs.Words.{bit_first, bit_half}
-use Rattle.blif.specs.Text.{node_name, output_name, spaced, node_names, output_names, leaf_digits, line, on_rows, cell_text, output_text, output_texts}
-use Rattle.blif.specs.Sections.{section_count, section_text}
+use Rattle.blif.specs.Text.{number, node_name, output_name, spaced, node_names, output_names, leaf_digits, line, on_rows, cell_text, output_text, output_texts}
+use Rattle.drawing.specs.declared.refusal.Refusal.TheVariants.{TooShort}
+use Rattle.blif.specs.Sections.{section_count, section_text, section_answer, section_writes}
+
+-- a number of at most three digits in decimal
+pub number_decimal : (n : ℕ) → n < 1000 → decimal n ≡ number n
+number_decimal n h =
+    cond_both (ltb n 10) ((48 + n) ∷ []) _ (λ bs. decimal n ≡ bs) (λ e. decimal_digit n (ltb-true n 10 e))
+    (λ e. cond_both (ltb n 100) ((48 + n / 10) ∷ (48 + n % 10) ∷ []) _ (λ bs. decimal n ≡ bs)
+    (λ f. let lo = ltb-false n 10 e in let hi = ltb-true n 100 f in decimal_step n lo (omega arith) ∙ ap (λ l. l ++ (48 + n % 10) ∷ []) (decimal_digit (n / 10) (omega arith)))
+    (λ f. let lo = ltb-false n 100 f in
+    let d : n / 10 / 10 ≡ n / 100 = omega arith in
+    decimal_step n (omega arith) (omega arith)
+    ∙ ap (λ l. l ++ (48 + n % 10) ∷ []) (decimal_step (n / 10) (omega arith) (omega arith) ∙ ap (λ l. l ++ (48 + n / 10 % 10) ∷ []) (decimal_digit (n / 10 / 10) (omega arith)))
+    ∙ ap (λ k. (48 + k) ∷ (48 + n / 10 % 10) ∷ (48 + n % 10) ∷ []) d))
 
 pub spaced_push : (names : List (List ℕ)) (word : List ℕ) → spaced names ++ (32 ∷ word) ≡ spaced (names ++ word ∷ [])
 spaced_push names word = flat_map_more (λ w. 32 ∷ w) [] names word
@@ -95,3 +110,17 @@ module _ (n : Netlist) where
   section_end i e =
       section_past i (omega arith)
       ∙ get_or_at (output_texts 0 n.outputs) (codes ".end\n") [] [] (i - 1 - length n.cells) (omega (arith, length_outputs 0 n.outputs))
+
+  -- what a call answers and writes for a section that is there: a buffer shorter than it
+  pub section_short : (i : ℕ) (out : List ℕ) → i < section_count n → length out < length (section_text n i) → (section_answer n i out ≡ Err TooShort) × (section_writes n i out ≡ out)
+  section_short i out h l =
+      let a : section_answer n i out ≡ Err TooShort =
+      cond-true (ltb i (section_count n)) _ _ (lt-ltb i (section_count n) h) ∙ cond-false (leb (length (section_text n i)) (length out)) _ _ (lt-leb _ _ l) in
+      (a, cond-false (is_ok (section_answer n i out)) _ _ (ap is_ok a))
+
+  -- and one that it fits
+  pub section_fits : (i : ℕ) (out : List ℕ) → i < section_count n → length (section_text n i) ≤ length out → (section_answer n i out ≡ Ok (length (section_text n i))) × (section_writes n i out ≡ section_text n i ++ drop (length (section_text n i)) out)
+  section_fits i out h l =
+      let a : section_answer n i out ≡ Ok (length (section_text n i)) =
+      cond-true (ltb i (section_count n)) _ _ (lt-ltb i (section_count n) h) ∙ cond-true (leb (length (section_text n i)) (length out)) _ _ (le-leb _ _ l) in
+      (a, cond-true (is_ok (section_answer n i out)) _ _ (ap is_ok a))

@@ -1,4 +1,3 @@
-pub mod Put
 pub mod Text
 pub mod Sections
 pub mod Reading

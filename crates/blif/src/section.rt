@@ -1,144 +1,122 @@
 //! The sections of the cell list.
 
-ghost use Rattle.std.specs.Prelude.{◌≡◌, ◌+◌, ◌*◌, ◌^◌, ◌<◌, ◌≤◌, length};
+ghost use Rattle.std.specs.Prelude.{◌≡◌, ◌<◌, ◌≤◌, ◌∷◌};
 ghost use Rattle.blif.specs.Meaning.{HasMeaning, Means};
-ghost use Rattle.blif.specs.Put.{Wrote};
 ghost use Rattle.blif.specs.Sections.{section_answer, section_count, section_text, section_writes};
-ghost use Rattle.blif.specs.Text.{cell_text, head_text, leaf_digits, line, node_names, output_names, output_text, table_lines};
-ghost use Rattle.cells.specs.Limits.{most_inputs};
-ghost use Rattle.drawing.specs.Drawing.{most_leaves};
+ghost use Rattle.blif.specs.Text.{cell_text, head_text, leaf_digits, line, name, node_names, output_names, output_text, table_lines};
 ghost use Rattle.cells.specs.Netlists.{netlist_of};
-ghost use Rattle.drawing.specs.Drawing.{most_nodes, most_outputs, node_of};
+ghost use Rattle.drawing.specs.Drawing.{most_leaves, most_nodes, most_outputs, node_of};
+ghost use Rattle.pen.specs.Wrote.{Wrote};
 
-use crate::put::{put, put_name, put_text};
 use cells::cell::Cell;
 use cells::cover::Cover;
 use drawing::refusal::Refusal;
+use pen::Pen;
+
+/// A space and a name: a letter and a number.
+fn put_name(pen: &mut Pen<'_>, letter: u8, n: usize)
+    requires { n < 1000 }
+    ensures { Wrote pen.old (32 ∷ name letter n) pen.new }
+{
+    pen.text(&[b' ', letter]);
+    pen.number(n);
+}
 
 /// The names of nodes.
-fn put_nodes(out: &mut [u8], at: usize, nodes: &[u8]) -> usize
-    requires { at + 5 * length nodes.now < 2 ^ 64 }
-    ensures wrote { Wrote out.old at (node_names nodes.now) out.new result }
-    ensures near { result ≤ at + 5 * length nodes.now }
+fn put_nodes(pen: &mut Pen<'_>, nodes: &[u8])
+    ensures { Wrote pen.old (node_names nodes.now) pen.new }
 {
-    let mut next = at;
     for node in nodes {
-        next = put_name(out, next, b'n', *node as u16);
+        put_name(pen, b'n', usize::from(*node));
     }
-    next
 }
 
 /// The names of the outputs.
-fn put_output_names(out: &mut [u8], at: usize, count: usize) -> usize
-    requires room { at + 5 * count < 2 ^ 64 }
-    requires few { count ≤ most_outputs }
-    ensures wrote { Wrote out.old at (output_names count) out.new result }
-    ensures near { result ≤ at + 5 * count }
+fn put_output_names(pen: &mut Pen<'_>, count: usize)
+    requires { count ≤ most_outputs }
+    ensures { Wrote pen.old (output_names count) pen.new }
 {
-    let mut next = at;
     for k in 0..count {
-        next = put_name(out, next, b'o', k as u16);
+        put_name(pen, b'o', k);
     }
-    next
 }
 
 /// The values of the leaves in row `m`, leaf 0 first.
-fn put_digits(out: &mut [u8], at: usize, m: u32, count: usize) -> usize
-    requires room { at + count < 2 ^ 64 }
-    requires few { count ≤ most_leaves }
-    ensures wrote { Wrote out.old at (leaf_digits m count) out.new result }
-    ensures near { result ≤ at + count }
+fn put_digits(pen: &mut Pen<'_>, m: u32, count: usize)
+    requires { count ≤ most_leaves }
+    ensures { Wrote pen.old (leaf_digits m count) pen.new }
 {
-    let mut next = at;
     for j in 0..count {
-        next = put(out, next, b'0' + ((m >> j) & 1) as u8);
+        pen.byte(b'0' + ((m >> j) & 1) as u8);
     }
-    next
 }
 
 /// The line of row `m`.
-fn put_line(out: &mut [u8], at: usize, m: u32, count: usize) -> usize
-    requires room { at + 8 < 2 ^ 64 }
-    requires few { count ≤ most_leaves }
-    ensures wrote { Wrote out.old at (line count m) out.new result }
-    ensures near { result ≤ at + 8 }
+fn put_line(pen: &mut Pen<'_>, m: u32, count: usize)
+    requires { count ≤ most_leaves }
+    ensures { Wrote pen.old (line count m) pen.new }
 {
     if count == 0 {
-        return put_text(out, at, b"1\n");
+        return pen.text(b"1\n");
     }
-    let next = put_digits(out, at, m, count);
-    put_text(out, next, b" 1\n")
+    put_digits(pen, m, count);
+    pen.text(b" 1\n");
 }
 
 /// The lines of a table: one for each row whose bit is 1.
-fn put_table(out: &mut [u8], at: usize, table: u32, count: usize) -> usize
-    requires room { at + 256 < 2 ^ 64 }
-    requires few { count ≤ most_leaves }
-    ensures wrote { Wrote out.old at (table_lines table count) out.new result }
-    ensures near { result ≤ at + 256 }
+fn put_table(pen: &mut Pen<'_>, table: u32, count: usize)
+    requires { count ≤ most_leaves }
+    ensures { Wrote pen.old (table_lines table count) pen.new }
 {
-    let mut next = at;
     for m in 0..1u32 << count {
         if (table >> m) & 1 == 1 {
-            next = put_line(out, next, m, count);
+            put_line(pen, m, count);
         }
     }
-    next
 }
 
 /// A cell.
-fn put_cell(out: &mut [u8], at: usize, cell: Cell) -> usize
-    requires { at + 512 < 2 ^ 64 }
-    ensures wrote { Wrote out.old at (cell_text cell) out.new result }
-    ensures near { result ≤ at + 512 }
+fn put_cell(pen: &mut Pen<'_>, cell: &Cell)
+    ensures { Wrote pen.old (cell_text cell.now) pen.new }
 {
     let leaves = cell.leaves();
-    let names = put_text(out, at, b".names");
-    let root = put_nodes(out, names, leaves);
-    let end = put_name(out, root, b'n', cell.root as u16);
-    let lines = put_text(out, end, b"\n");
-    put_table(out, lines, cell.table, leaves.len())
+    pen.text(b".names");
+    put_nodes(pen, leaves);
+    put_name(pen, b'n', usize::from(cell.root));
+    pen.text(b"\n");
+    put_table(pen, cell.table, leaves.len());
 }
 
 /// Output `k`, of this literal.
-fn put_output(out: &mut [u8], at: usize, k: u16, literal: u16) -> usize
-    requires room { at + 64 < 2 ^ 64 }
+fn put_output(pen: &mut Pen<'_>, k: usize, literal: u16)
     requires few { k < most_outputs }
     requires there { node_of literal < most_nodes }
-    ensures wrote { Wrote out.old at (output_text k literal) out.new result }
-    ensures near { result ≤ at + 64 }
+    ensures { Wrote pen.old (output_text k literal) pen.new }
 {
-    let names = put_text(out, at, b".names");
+    pen.text(b".names");
     if literal / 2 == 0 {
-        let end = put_name(out, names, b'o', k);
-        return if literal % 2 == 0 {
-            put_text(out, end, b"\n")
-        } else {
-            put_text(out, end, b"\n1\n")
-        };
+        put_name(pen, b'o', k);
+        return pen.text(if literal % 2 == 0 { b"\n" } else { b"\n1\n" });
     }
-    let own = put_name(out, names, b'n', literal / 2);
-    let end = put_name(out, own, b'o', k);
-    if literal % 2 == 0 {
-        put_text(out, end, b"\n1 1\n")
+    put_name(pen, b'n', usize::from(literal / 2));
+    put_name(pen, b'o', k);
+    pen.text(if literal % 2 == 0 {
+        b"\n1 1\n"
     } else {
-        put_text(out, end, b"\n0 1\n")
-    }
+        b"\n0 1\n"
+    });
 }
 
 /// The head: the model's name, the inputs and the outputs.
-fn put_head(out: &mut [u8], at: usize, inputs: &[u8], outputs: usize) -> usize
-    requires room { at + 2048 < 2 ^ 64 }
-    requires inputs { length inputs.now ≤ most_inputs }
-    requires outputs { outputs ≤ most_outputs }
-    ensures wrote { Wrote out.old at (head_text inputs.now outputs) out.new result }
-    ensures near { result ≤ at + 2048 }
+fn put_head(pen: &mut Pen<'_>, inputs: &[u8], outputs: usize)
+    requires { outputs ≤ most_outputs }
+    ensures { Wrote pen.old (head_text inputs.now outputs) pen.new }
 {
-    let names = put_text(out, at, b".model lutmap\n.inputs");
-    let first = put_nodes(out, names, inputs);
-    let second = put_text(out, first, b"\n.outputs");
-    let end = put_output_names(out, second, outputs);
-    put_text(out, end, b"\n")
+    pen.text(b".model lutmap\n.inputs");
+    put_nodes(pen, inputs);
+    pen.text(b"\n.outputs");
+    put_output_names(pen, outputs);
+    pen.text(b"\n");
 }
 
 /// How many sections the cell list of a cover has: the head, each cell, each output, the end.
@@ -154,24 +132,24 @@ pub fn sections(cover: &Cover) -> usize
     2 + cover.cells().len() + cover.outputs().len()
 }
 
-/// The section, as far as the buffer reaches, and its length.
-fn put_section(cover: &Cover, section: usize, out: &mut [u8]) -> usize
+/// A section, counted from 0.
+fn put_section(pen: &mut Pen<'_>, cover: &Cover, section: usize)
     requires { section < section_count (netlist_of cover.now) }
-    ensures { Wrote out.old 0 (section_text (netlist_of cover.now) section) out.new result }
+    ensures { Wrote pen.old (section_text (netlist_of cover.now) section) pen.new }
 {
     let cells = cover.cells();
     let outputs = cover.outputs();
     if section == 0 {
-        return put_head(out, 0, cover.inputs(), outputs.len());
+        return put_head(pen, cover.inputs(), outputs.len());
     }
     if section <= cells.len() {
-        return put_cell(out, 0, cells[section - 1]);
+        return put_cell(pen, &cells[section - 1]);
     }
     let k = section - 1 - cells.len();
     if k < outputs.len() {
-        return put_output(out, 0, k as u16, outputs[k]);
+        return put_output(pen, k, outputs[k]);
     }
-    put_text(out, 0, b".end\n")
+    pen.text(b".end\n");
 }
 
 /// Writes a section of the cell list, counted from 0, and answers its length; what stands behind it
@@ -187,9 +165,13 @@ pub fn write_section(cover: &Cover, section: usize, out: &mut [u8]) -> Result<us
         return Err(Refusal::NoSection);
     }
     let mut nowhere: [u8; 0] = [];
-    let length = put_section(cover, section, &mut nowhere);
+    let mut count = Pen::new(&mut nowhere);
+    put_section(&mut count, cover, section);
+    let length = count.at;
     if out.len() < length {
         return Err(Refusal::TooShort);
     }
-    Ok(put_section(cover, section, out))
+    let mut pen = Pen::new(out);
+    put_section(&mut pen, cover, section);
+    Ok(length)
 }

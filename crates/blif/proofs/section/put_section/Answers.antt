@@ -10,7 +10,7 @@ use Rattle.cells.specs.Netlist.{Netlist}
 use Rattle.cells.specs.Netlists.{netlist_of}
 use Rattle.cells.proofs.Laws.{cover_outputs}
 use Rattle.blif.specs.Text.{cell_text, output_text}
-use Rattle.blif.proofs.Wrote.{wrote_is}
+use Rattle.pen.proofs.Wrote.{wrote_is}
 use Rattle.blif.proofs.Texts.{section_count_lem, section_cell, section_output, section_end}
 use Rattle.blif.proofs.section.put_section.Goals as goal
 
@@ -21,7 +21,6 @@ put_output-requires c =
     let there = ap (every (λ l. ltb (node_of l) most_nodes)) c.outputs-outputs.ensures ∙ cover_outputs (netlist_of s) s.law in
     let few = ap length c.outputs-outputs.ensures ∙ length-take-le s.output_count s.outputs (omega arith) in
     record {
-      room = omega arith;
       few = omega arith;
       there = ltb-true _ most_nodes (every_at (λ l. ltb (node_of l) most_nodes) c.outputs-outputs.result.now k 0 there (omega arith));
     }
@@ -33,7 +32,7 @@ returns-then-section-cells c =
     let e = c.cells-cells.ensures in
     let l = ap length e in
     let d : Cell = record { root = 0; count = 0; leaves = []; table = 0 } in
-    wrote_is c.put_cell.ensures.wrote (ap (λ cs. cell_text (get_or cs (i - 1) d)) e ∙ sym (section_cell n i d (omega arith) (omega arith)))
+    wrote_is c.put_cell.ensures (ap (λ cs. cell_text (get_or cs (i - 1) d)) e ∙ sym (section_cell n i d (omega arith) (omega arith)))
 
 pub returns-then-k-outputs : goal.returns-then-k-outputs
 returns-then-k-outputs c =
@@ -43,7 +42,7 @@ returns-then-k-outputs c =
     let e = c.outputs-outputs.ensures in
     let lc = ap length c.cells-cells.ensures in
     let lo = ap length e in
-    wrote_is c.put_output.ensures.wrote (ap (λ os. output_text k (get_or os k 0)) e ∙ sym (section_output n i k (omega arith) (omega arith) (omega arith)))
+    wrote_is c.put_output.ensures (ap (λ os. output_text k (get_or os k 0)) e ∙ sym (section_output n i k (omega arith) (omega arith) (omega arith)))
 
 pub returns : goal.returns
 returns c =
@@ -52,4 +51,4 @@ returns c =
     let lo = ap length c.outputs-outputs.ensures in
     let count = section_count_lem n in
     let below = c.requires in
-    wrote_is c.put_text.ensures (sym (section_end n c.args.section (omega arith)))
+    wrote_is c.text.ensures (sym (section_end n c.args.section (omega arith)))

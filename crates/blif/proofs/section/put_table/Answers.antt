@@ -1,22 +1,16 @@
-use Rattle.std.proofs.Common.{◌≡◌, ◌*◌, ◌/◌, ◌%◌, ◌^◌, ◌<◌, ◌≤◌, sym, ap, ◌∙◌, arith, pow_mono}
+use Rattle.std.proofs.Common.{◌≡◌, ◌*◌, ◌/◌, ◌%◌, ◌^◌, sym, ap, ◌∙◌, arith}
 use Rattle.std.proofs.lemmas.Nat.{and_mask, one_shl}
 use Rattle.std.proofs.lemmas.Bool.{ne_eqb}
-use Rattle.cells.specs.Limits.{table_bits}
 use Rattle.drawing.specs.Drawing.{most_leaves}
 use Rattle.cells.specs.Truth.{bit}
 use Rattle.cells.proofs.Packed.{row_below}
-use Rattle.blif.proofs.Wrote.{wrote_then, wrote_is, wrote_at}
+use Rattle.pen.proofs.Wrote.{wrote_then, wrote_is, wrote_as}
 use Rattle.blif.proofs.Texts.{lines_to, lines_with, lines_without}
 use Rattle.blif.proofs.section.put_table.Goals as goal
 use Rattle.blif.proofs.section.put_table.Goals.{then-table-m-eq1, else-table-m-eq1}
 
 pub overflow_shr-table : goal.overflow_shr-table
-overflow_shr-table c = row_below _ _ most_leaves c.requires.few (omega arith) c.loop-m-test.true
-
-pub put_line-next-requires : goal.put_line-next-requires
-put_line-next-requires c =
-    let h : c.loop-m.m < table_bits = row_below _ _ most_leaves c.requires.few (omega arith) c.loop-m-test.true in
-    record { room = omega arith; few = c.requires.few }
+overflow_shr-table c = row_below _ _ most_leaves c.requires (omega arith) c.loop-m-test.true
 
 pub loop-m-preserved : goal.loop-m-preserved
 loop-m-preserved c =
@@ -25,20 +19,13 @@ loop-m-preserved c =
     let m = c.loop-m.m in
     let e = and_mask (t / 2 ^ m) 1 in
     elim c.if-table-m-eq1.branch [
-      | then-table-m-eq1 w ↦ (
-        wrote_at (wrote_is (wrote_then c.loop-m.invariant.0 w.put_line-next.ensures.wrote) (lines_with t n m (sym e ∙ w.if-table-m-eq1.true))) w.out-is w.next-is,
-        omega (arith, w.next-is, w.put_line-next.ensures.near),
-      )
-      | else-table-m-eq1 w ↦ (
-        wrote_at (wrote_is c.loop-m.invariant.0 (lines_without t n m (ne_eqb (bit t m) 1 (λ h. w.if-table-m-eq1.false (e ∙ h))))) w.out-is w.next-is,
-        omega (arith, w.next-is),
-      )
+      | then-table-m-eq1 w ↦ wrote_as (wrote_is (wrote_then c.loop-m.invariant w.put_line.ensures) (lines_with t n m (sym e ∙ w.if-table-m-eq1.true))) w.pen-is
+      | else-table-m-eq1 w ↦ wrote_as (wrote_is c.loop-m.invariant (lines_without t n m (ne_eqb (bit t m) 1 (λ h. w.if-table-m-eq1.false (e ∙ h))))) w.pen-is
     ]
 
 pub returns : goal.returns
 returns c =
     let n = c.args.count in
     let e : 1 * 2 ^ n % 2 ^ 32 ≡ 2 ^ n = one_shl n 32 (omega arith) in
-    let p : 2 ^ n ≤ table_bits = pow_mono c.requires.few in
     let m : c.loop-m.m ≡ 2 ^ n = omega arith in
-    record { wrote = wrote_is c.loop-m.invariant.0 (ap (lines_to c.args.table n) m); near = omega arith }
+    wrote_is c.loop-m.invariant (ap (lines_to c.args.table n) m)

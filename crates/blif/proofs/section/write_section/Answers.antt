@@ -1,24 +1,30 @@
-use Rattle.std.proofs.Common.{◌≡◌, ℕ, ◌<◌, ◌≤◌, ltb, leb, length, is_ok, Ok, sym, ap, ◌∙◌, subst, zero-add, arith}
-use Rattle.std.proofs.lemmas.Bool.{cond-true, lt-ltb, le-leb}
+use Rattle.std.proofs.Common.{◌≡◌, ℕ, ◌<◌, ◌≤◌, length, Ok, ap, ◌∙◌, sym, subst, rules, arith}
 use Rattle.cells.specs.Netlist.{Netlist}
 use Rattle.cells.specs.Netlists.{netlist_of}
-use Rattle.blif.specs.Sections.{section_count, section_text, section_answer}
-use Rattle.blif.proofs.Wrote.{over_start}
+use Rattle.pen.proofs.Wrote.{wrote_count, wrote_all}
+use Rattle.blif.specs.Sections.{section_count, section_text, section_writes}
+use Rattle.blif.proofs.Texts.{section_short, section_fits}
 use Rattle.blif.proofs.section.write_section.Goals as goal
+
+pub returns-then-out-length : goal.returns-then-out-length
+returns-then-out-length c =
+    let n : Netlist = netlist_of c.args.cover.now in
+    let i = c.args.section in
+    let count = wrote_count c.put_section.ensures c.new-count.ensures.start in
+    let below : i < section_count n = subst (λ (x : ℕ). i < x) c.sections.ensures.count c.if-section-sections.false in
+    let s = section_short n i c.args.out.now below (omega arith) in
+    record { answer = sym s.0; buffer = sym s.1 }
 
 pub returns : goal.returns
 returns c =
     let n : Netlist = netlist_of c.args.cover.now in
     let i = c.args.section in
     let out = c.args.out.now in
-    let text = section_text n i in
-    let r : c.put_section.result ≡ length text = c.put_section.ensures.next ∙ zero-add (length text) in
-    let l : c.put_section-length.result ≡ length text = c.put_section-length.ensures.next ∙ zero-add (length text) in
-    let h : length text ≤ length out = omega arith in
+    let count = wrote_count c.put_section.ensures c.new-count.ensures.start in
     let below : i < section_count n = subst (λ (x : ℕ). i < x) c.sections.ensures.count c.if-section-sections.false in
-    let a : section_answer n i out ≡ Ok (length text) =
-    cond-true (ltb i (section_count n)) _ _ (lt-ltb i (section_count n) below) ∙ cond-true (leb (length text) (length out)) _ _ (le-leb (length text) (length out) h) in
-    record {
-      answer = ap Ok r ∙ sym a;
-      buffer = c.put_section.ensures.holds ∙ over_start out text h ∙ sym (cond-true (is_ok (section_answer n i out)) _ _ (ap is_ok a));
-    }
+    let fits : length (section_text n i) ≤ length out = omega arith in
+    let l : c.put_section.new.pen.at ≡ length (section_text n i) = omega arith in
+    let s = section_fits n i out below fits in
+    let w : c.put_section-2.new.pen.out.now ≡ section_writes n i out =
+    wrote_all c.put_section-2.ensures c.new-pen.ensures.start c.new-pen.ensures.holds fits (omega arith) ∙ sym s.1 in
+    record { answer = ap Ok l ∙ sym s.0; buffer = (search rules) ∙ w }
