@@ -5,7 +5,7 @@ use Rattle.std.proofs.lemmas.List.{length-append, take_at, take-append-drop, len
 use Rattle.std.proofs.lemmas.Bool.{cases_Bool, cond-true, cond-false}
 use Rattle.drawing.specs.declared.refusal.Fault.{Fault}
 use Rattle.drawing.specs.declared.refusal.Rule.TheVariants.{Pattern, Figures, Literal}
-use Rattle.aiger.specs.declared.reader.Part.{Part}
+use Rattle.aiger.specs.declared.part.Part.{Part}
 use Rattle.aiger.specs.Text.{word}
 use Rattle.aiger.specs.Reads.{Act, Digit, Space, Newline, Stop, act, Scan, broken, whole, scan, Sheet, width, fits, add, headed, Outcome, fault, after, read_lines, read_word, read}
 use Rattle.aiger.specs.Laws.{BreaksForGood, EndsEarly}

@@ -4,7 +4,7 @@ use Rattle.std.specs.List.{AllByRecursion as All}
 use Rattle.std.proofs.lemmas.List.{length-append, take_at}
 use Rattle.std.proofs.lemmas.Bool.{ne_eqb, eqb-true}
 use Rattle.drawing.specs.declared.refusal.Fault.{Fault}
-use Rattle.aiger.specs.declared.reader.Part.{Part}
+use Rattle.aiger.specs.declared.part.Part.{Part}
 use Rattle.drawing.specs.declared.refusal.Rule.TheVariants.{Pattern, Figures}
 use Rattle.drawing.specs.Drawing.{Drawing}
 use Rattle.aiger.specs.Text.{word}

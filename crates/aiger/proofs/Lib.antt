@@ -5,7 +5,5 @@ pub mod Written
 pub mod Faults
 pub mod Beginnings
 pub mod Examples
-pub mod Steps
-pub mod Ends
-pub mod Bytes
 pub mod Pages
+pub mod Reading

@@ -5,8 +5,8 @@ use Rattle.std.proofs.lemmas.List.{length-append, length-map, length-replicate, 
 use Rattle.std.proofs.lemmas.Bool.{and_from, eq-eqb, lt-ltb, le-leb, both_ways, not_from_false, cond-true}
 use Rattle.drawing.specs.declared.node.Node.{Node}
 use Rattle.drawing.specs.declared.node.Node.TheVariants.{Constant, Input, Gate}
-use Rattle.aiger.specs.declared.reader.Part.{Part}
-use Rattle.aiger.specs.declared.reader.Part.TheVariants.{Inputs, Outputs, Gates}
+use Rattle.aiger.specs.declared.part.Part.{Part}
+use Rattle.aiger.specs.declared.part.Part.TheVariants.{Inputs, Outputs, Gates}
 use Rattle.drawing.specs.declared.refusal.Rule.TheVariants.{Literal}
 use Rattle.drawing.specs.Sets.{In}
 use Rattle.drawing.specs.Drawing.{Drawing, drawing, node_of, is_input, lawful}

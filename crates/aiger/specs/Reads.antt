@@ -1,13 +1,13 @@
 -- What the reader owes for a text, line by line: its drawing, or its first fault.
-use Rattle.std.specs.Prelude.{ℕ, suc, ◌+◌, ◌-◌, ◌*◌, ◌%◌, Bool, false, cond, not, ◌&&◌, List, [], ◌∷◌, ◌++◌, replicate, Some, None, Ok, Err, Option, Result, ◌==◌, nat_le, nat_lt, slice_index, slice_set}
+use Rattle.std.specs.Prelude.{ℕ, suc, ◌+◌, ◌-◌, ◌*◌, ◌%◌, Bool, cond, not, ◌&&◌, List, [], ◌∷◌, ◌++◌, replicate, Some, None, Ok, Err, Option, Result, ◌==◌, nat_le, nat_lt, slice_index, slice_set}
 use Rattle.drawing.specs.declared.node.Node.{Node}
 use Rattle.drawing.specs.declared.node.Node.TheVariants.{Constant, Input, Gate}
 use Rattle.drawing.specs.declared.refusal.Rule.{Rule}
 use Rattle.drawing.specs.declared.refusal.Rule.TheVariants.{Pattern, Figures, Literal}
 use Rattle.drawing.specs.declared.refusal.Fault.{Fault}
 use Rattle.drawing.specs.Drawing.{Drawing, drawing, most_nodes, most_outputs, node_of, at, is_input, names}
-use Rattle.aiger.specs.declared.reader.Part.{Part}
-use Rattle.aiger.specs.declared.reader.Part.TheVariants.{Header, Inputs, Outputs, Gates, End}
+use Rattle.aiger.specs.declared.part.Part.{Part}
+use Rattle.aiger.specs.declared.part.Part.TheVariants.{Inputs, Outputs, Gates}
 use Rattle.aiger.specs.Text.{word}
 
 -- The pattern of a line.
@@ -57,13 +57,11 @@ pub record Sheet : Type 0 where
   pub input : ℕ
   pub gate : ℕ
 
--- how many numbers come after a line's first
+-- how many numbers come after the first of a line below the header
 abbrev pub width : Part → ℕ
-width Header = 4
 width Inputs = 0
 width Outputs = 0
 width Gates = 2
-width End = 0
 
 -- the figures M I L O A are inside the rules
 abbrev pub headed : List ℕ → Bool
@@ -77,18 +75,15 @@ follows last l nodes = l % 2 == 0 && (nat_lt last (node_of l) && names nodes l)
 
 -- the literals of a line of this part are inside the rules
 abbrev pub fits : Part → Sheet → List ℕ → Bool
-fits Header sh ns = false
 fits Inputs sh ns = follows sh.input (slice_index ns 0) sh.nodes
 fits Outputs sh ns = names sh.nodes (slice_index ns 0)
 fits Gates sh ns =
     follows sh.gate (slice_index ns 0) sh.nodes
     && (not (is_input (at sh.nodes (node_of (slice_index ns 0))))
     && (nat_lt (node_of (slice_index ns 1)) (node_of (slice_index ns 0)) && nat_lt (node_of (slice_index ns 2)) (node_of (slice_index ns 0))))
-fits End sh ns = false
 
 -- the sheet with what the line says
 abbrev pub add : Part → Sheet → List ℕ → Sheet
-add Header sh ns = sh
 add Inputs sh ns =
     record {
       nodes = slice_set sh.nodes (node_of (slice_index ns 0)) Input;
@@ -105,7 +100,6 @@ add Gates sh ns =
       input = sh.input;
       gate = node_of (slice_index ns 0);
     }
-add End sh ns = sh
 
 -- The text.
 
@@ -146,7 +140,7 @@ read_heading s =
 
 -- the letters of the first word, and then the header's figures
 unfoldable pub read_word : List ℕ → ℕ → List ℕ → Outcome
-read_word [] pos bs = read_heading (scan (width Header) [] None pos bs)
+read_word [] pos bs = read_heading (scan 4 [] None pos bs)
 read_word (w ∷ ws) pos [] = fault Pattern pos 0
 read_word (w ∷ ws) pos (b ∷ bs) = cond (b == w) (read_word ws (pos + 1) bs) (fault Pattern pos 0)
 

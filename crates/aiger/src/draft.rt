@@ -1,101 +1,121 @@
 //! A drawing that is being read.
 
-ghost use Rattle.std.specs.Prelude.{◌≡◌, ◌+◌, ◌<◌, ◌≤◌, true, [], ◌∷◌, replicate};
-ghost use Rattle.aiger.specs.States.{drafted, drawn, Puts};
-ghost use Rattle.aiger.specs.declared.reader.Part.TheVariants.{Inputs, Outputs, Gates};
-ghost use Rattle.drawing.specs.Drawing.{lawful, most_nodes, most_outputs};
+ghost use Rattle.std.specs.Prelude.{◌≡◌, ◌+◌, ◌<◌, ◌≤◌, true, false, [], ◌∷◌, length, MatchOption};
+ghost use Rattle.aiger.specs.Reads.{blank, follows, width};
+ghost use Rattle.aiger.specs.States.{drafted, drawn, due, Puts};
+ghost use Rattle.aiger.specs.declared.part.Part.TheVariants.{Inputs, Outputs, Gates};
+ghost use Rattle.drawing.specs.Drawing.{lawful, most_nodes, most_outputs, node_of};
 ghost use Rattle.drawing.specs.Tables.{drawing_of};
-ghost use Rattle.drawing.specs.declared.node.Node.TheVariants.{Constant};
 
+use crate::part::Part;
+use arrayvec::ArrayVec;
 use drawing::node::{Node, Pair};
-use drawing::refusal::Fault;
 use drawing::table::Table;
+use drawing::table::calls::{MOST_NODES, MOST_OUTPUTS};
 
-/// The drawing so far. A node below `count` that no line has named yet stands as `Node::Constant`.
+/// The drawing so far. A node that no line has named yet stands as `Node::Constant`.
 #[derive(Drop)]
 pub struct Draft {
-    pub(crate) nodes: [Node; 256],
-    pub(crate) count: usize,
-    outputs: [u16; 64],
-    output_count: usize,
-    /// The last input that a line named, or 0.
+    nodes: ArrayVec<Node, MOST_NODES>,
+    outputs: ArrayVec<u16, MOST_OUTPUTS>,
+    // A number, and no Option: the next input has to be above node 0 too, so before the first input the bound is 0.
+    /// The next input is above this node: the last input that a line named, and before the first node 0.
     input: usize,
-    /// The last gate that a line named, or 0.
+    /// The same of the next gate.
     gate: usize,
 }
 
 impl Draft {
-    /// Node 0 alone.
-    pub(crate) fn new() -> Draft
-        ensures nodes { result.nodes ≡ replicate most_nodes Constant }
-        ensures counts { (result.count ≡ 1) × (result.output_count ≡ 0) × (result.input ≡ 0) × (result.gate ≡ 0) }
+    /// Node 0 and the nodes up to the last, of which no line has named any.
+    pub(crate) fn new(last: usize) -> Draft
+        requires { last < most_nodes }
+        ensures { drafted result ≡ blank last }
     {
+        let mut nodes = ArrayVec::from([Node::Constant; MOST_NODES]);
+        nodes.truncate(last + 1);
         Draft {
-            nodes: [Node::Constant; 256],
-            count: 1,
-            outputs: [0; 64],
-            output_count: 0,
+            nodes,
+            outputs: ArrayVec::new(),
             input: 0,
             gate: 0,
         }
     }
 
-    /// The line of an input; or the fault `otherwise`, where its literal is outside the rules.
-    pub(crate) fn input(&mut self, literal: u16, otherwise: Fault) -> Result<(), Fault>
-        requires { self.old.count ≤ most_nodes }
-        ensures puts { Puts Inputs (drafted self.old) (literal ∷ []) otherwise result (drafted self.new) }
-        ensures kept { (self.new.count ≡ self.old.count) × (self.new.output_count ≡ self.old.output_count) }
+    /// Puts a line's numbers on the draft, or answers `None` where a literal is outside the rules.
+    pub(crate) fn put(&mut self, part: Part, numbers: &[u16]) -> Option<()>
+        requires whole { length numbers.now ≡ width part + 1 }
+        requires room { length (drafted self.old).outputs + due part ≤ most_outputs }
+        ensures puts { Puts part (drafted self.old) numbers.now result (drafted self.new) }
+        ensures room { length (drafted self.new).outputs ≤ length (drafted self.old).outputs + due part }
+    {
+        match (part, numbers) {
+            (Part::Inputs, [literal]) => self.input(*literal),
+            (Part::Outputs, [literal]) => self.output(*literal),
+            (Part::Gates, [literal, left, right]) => self.gate(
+                *literal,
+                Pair {
+                    left: *left,
+                    right: *right,
+                },
+            ),
+            _ => None,
+        }
+    }
+
+    /// The node of a literal that is even, and names a node above `last`.
+    fn above(&self, last: usize, literal: u16) -> Option<usize>
+        ensures { MatchOption result (follows last literal (drafted self.now).nodes ≡ false) (λ n. (follows last literal (drafted self.now).nodes ≡ true) × (n ≡ node_of literal)) }
     {
         let node = usize::from(literal / 2);
-        if literal % 2 != 0 || node <= self.input || node >= self.count {
-            return Err(otherwise);
-        }
+        (literal % 2 == 0 && last < node && node < self.nodes.len()).then_some(node)
+    }
+
+    /// The line of an input.
+    fn input(&mut self, literal: u16) -> Option<()>
+        ensures puts { Puts Inputs (drafted self.old) (literal ∷ []) result (drafted self.new) }
+        ensures room { (drafted self.new).outputs ≡ (drafted self.old).outputs }
+    {
+        let node = self.above(self.input, literal)?;
         self.nodes[node] = Node::Input;
         self.input = node;
-        Ok(())
+        Some(())
     }
 
-    /// The line of an output; or the fault `otherwise`, where its literal is outside the rules.
-    pub(crate) fn output(&mut self, literal: u16, otherwise: Fault) -> Result<(), Fault>
-        requires { (self.old.count ≤ most_nodes) × (self.old.output_count < most_outputs) }
-        ensures puts { Puts Outputs (drafted self.old) (literal ∷ []) otherwise result (drafted self.new) }
-        ensures kept { (self.new.count ≡ self.old.count) × (self.new.output_count ≤ self.old.output_count + 1) }
+    /// The line of an output.
+    fn output(&mut self, literal: u16) -> Option<()>
+        requires { length (drafted self.old).outputs < most_outputs }
+        ensures puts { Puts Outputs (drafted self.old) (literal ∷ []) result (drafted self.new) }
+        ensures room { length (drafted self.new).outputs ≤ length (drafted self.old).outputs + 1 }
     {
-        if usize::from(literal / 2) >= self.count {
-            return Err(otherwise);
+        if usize::from(literal / 2) >= self.nodes.len() {
+            return None;
         }
-        self.outputs[self.output_count] = literal;
-        self.output_count += 1;
-        Ok(())
+        self.outputs.push(literal);
+        Some(())
     }
 
-    /// The line of a gate; or the fault `otherwise`, where a literal is outside the rules.
-    pub(crate) fn gate(&mut self, literal: u16, pair: Pair, otherwise: Fault) -> Result<(), Fault>
-        requires { self.old.count ≤ most_nodes }
-        ensures puts { Puts Gates (drafted self.old) (literal ∷ pair.left ∷ pair.right ∷ []) otherwise result (drafted self.new) }
-        ensures kept { (self.new.count ≡ self.old.count) × (self.new.output_count ≡ self.old.output_count) }
+    /// The line of a gate.
+    fn gate(&mut self, literal: u16, pair: Pair) -> Option<()>
+        ensures puts { Puts Gates (drafted self.old) (literal ∷ pair.left ∷ pair.right ∷ []) result (drafted self.new) }
+        ensures room { (drafted self.new).outputs ≡ (drafted self.old).outputs }
     {
-        let node = usize::from(literal / 2);
-        if literal % 2 != 0 || node <= self.gate || node >= self.count {
-            return Err(otherwise);
-        }
-        if self.nodes[node].is_input() {
-            return Err(otherwise);
-        }
-        if pair.left / 2 >= literal / 2 || pair.right / 2 >= literal / 2 {
-            return Err(otherwise);
+        let node = self.above(self.gate, literal)?;
+        if self.nodes[node].is_input()
+            || pair.left / 2 >= literal / 2
+            || pair.right / 2 >= literal / 2
+        {
+            return None;
         }
         self.nodes[node] = Node::Gate(pair);
         self.gate = node;
-        Ok(())
+        Some(())
     }
 
     /// The table of a drawing that is whole.
     pub(crate) fn table(self) -> Table
-        requires within { (self.count ≤ most_nodes) × (self.output_count ≤ most_outputs) }
-        requires law { lawful (drawn self) ≡ true }
+        requires { lawful (drawn self) ≡ true }
         ensures { drawing_of result ≡ drawn self }
     {
-        Table::of(self.nodes, self.count, self.outputs, self.output_count)
+        Table::of(self.nodes, self.outputs)
     }
 }

@@ -13,24 +13,25 @@
 #![tactic(auto)]
 
 mod draft;
+mod header;
 mod line;
 mod page;
+mod part;
 mod reader;
+mod text;
 mod writer;
 
 ghost use Rattle.aiger.specs.Laws.{BreaksForGood, EndsEarly, Examples, OnlyTexts, PlacesFaults, ReadsBack};
 
-pub use reader::read;
+pub use text::read;
 pub use writer::write;
 
 /// What is proved of the format.
-pub fn format_stands() -> u8
+pub fn format_stands()
     ensures only { OnlyTexts }
     ensures back { ReadsBack }
     ensures places { PlacesFaults }
     ensures breaks { BreaksForGood }
     ensures early { EndsEarly }
     ensures examples { Examples }
-{
-    0
-}
+{}

@@ -1,56 +1,21 @@
-//! A line of numbers, byte by byte.
+//! A line of numbers.
 
-ghost use Rattle.std.specs.Prelude.{◌≡◌, ◌+◌, ◌^◌, ◌<◌, ◌≤◌, Some, None, MatchResult, ◌≢◌};
+ghost use Rattle.std.specs.Prelude.{◌≡◌, ℕ, ◌<◌, ◌≤◌, Some, None, MatchOption};
 ghost use Rattle.aiger.specs.Reads.{act, Digit, Stop};
-ghost use Rattle.aiger.specs.States.{Breaks, broken_at, Closes, Fair, first_line, Goes, misplaced_in};
+ghost use Rattle.aiger.specs.States.{misplaced_in};
 
+use arrayvec::ArrayVec;
 use drawing::refusal::{Fault, Rule};
 
-/// The line that is being read.
+/// A line that is read to its end: its numbers, its number counted from 0, and its first byte.
 #[derive(Drop)]
 pub struct Line {
-    /// The line's number, counted from 0.
+    pub(crate) numbers: ArrayVec<u16, 5>,
     pub(crate) row: usize,
-    /// Its first byte.
     pub(crate) start: usize,
-    /// The byte that comes next.
-    pub(crate) pos: usize,
-    /// How many numbers come after this one.
-    pub(crate) more: usize,
-    /// How many numbers are whole, and these.
-    pub(crate) field: usize,
-    pub(crate) fields: [u16; 5],
-    /// The number so far, if it has begun.
-    pub(crate) number: Option<u16>,
 }
 
 impl Line {
-    /// The first line of a text, which has five figures behind the first word.
-    pub(crate) fn first() -> Line
-        ensures { result ≡ first_line }
-    {
-        Line {
-            row: 0,
-            start: 0,
-            pos: 0,
-            more: 4,
-            field: 0,
-            fields: [0; 5],
-            number: None,
-        }
-    }
-
-    /// The next byte breaks the pattern.
-    pub(crate) fn broken(&self) -> Fault
-        ensures { result ≡ broken_at self.now }
-    {
-        Fault {
-            rule: Rule::Pattern,
-            byte: self.pos,
-            line: self.row,
-        }
-    }
-
     /// A literal of this line is outside the rules.
     pub(crate) fn misplaced(&self) -> Fault
         ensures { result ≡ misplaced_in self.now }
@@ -61,77 +26,18 @@ impl Line {
             line: self.row,
         }
     }
+}
 
-    /// The number so far with one more digit. A number has at most three digits, and only 0 itself begins with 0: so a
-    /// digit may follow the number v exactly where 0 < v < 100.
-    fn digit(&self, byte: u8) -> Result<u16, Fault>
-        requires { (48 ≤ byte) × (byte < 58) }
-        ensures { MatchResult result (λ v. act self.now.more self.now.number byte ≡ Digit v) (λ f. (act self.now.more self.now.number byte ≡ Stop) × (f ≡ broken_at self.now)) }
-    {
-        let value = u16::from(byte - b'0');
-        match self.number {
-            None => Ok(value),
-            Some(v) if 0 < v && v < 100 => Ok(10 * v + value),
-            Some(_) => Err(self.broken()),
-        }
-    }
-
-    /// The number that ends here.
-    fn whole(&self) -> Result<u16, Fault>
-        ensures { MatchResult result (λ v. self.now.number ≡ Some v) (λ f. (self.now.number ≡ None) × (f ≡ broken_at self.now)) }
-    {
-        match self.number {
-            Some(v) => Ok(v),
-            None => Err(self.broken()),
-        }
-    }
-
-    /// The number that ends here is the next field of the line.
-    fn space(&mut self) -> Result<(), Fault>
-        requires { (self.old.pos + 1 < 2 ^ 64) × (Fair self.old) }
-        ensures { MatchResult result (λ _. Goes self.old 32 self.new) (λ f. Breaks self.old 32 f) }
-    {
-        if self.more == 0 {
-            return Err(self.broken());
-        }
-        let number = self.whole()?;
-        self.fields[self.field] = number;
-        self.field += 1;
-        self.more -= 1;
-        self.number = None;
-        self.pos += 1;
-        Ok(())
-    }
-
-    /// One more byte of the line, other than the one that ends it.
-    pub(crate) fn take(&mut self, byte: u8) -> Result<(), Fault>
-        requires { (self.old.pos + 1 < 2 ^ 64) × ((Fair self.old) × ((byte ≢ 10))) }
-        ensures { MatchResult result (λ _. Goes self.old byte self.new) (λ f. Breaks self.old byte f) }
-    {
-        if byte == b' ' {
-            return self.space();
-        }
-        if byte < b'0' || byte > b'9' {
-            return Err(self.broken());
-        }
-        let number = self.digit(byte)?;
-        self.number = Some(number);
-        self.pos += 1;
-        Ok(())
-    }
-
-    /// The byte that ends the line.
-    pub(crate) fn close(&mut self) -> Result<(), Fault>
-        requires { (self.old.pos + 1 < 2 ^ 64) × (Fair self.old) }
-        ensures { MatchResult result (λ _. Closes self.old 10 self.new) (λ f. Breaks self.old 10 f) }
-    {
-        if self.more > 0 {
-            return Err(self.broken());
-        }
-        let number = self.whole()?;
-        self.fields[self.field] = number;
-        self.field += 1;
-        self.pos += 1;
-        Ok(())
+/// The number with one more digit. A number has at most three digits, and only 0 itself begins with 0: so a digit may
+/// follow the number v exactly where 0 < v < 100.
+pub(crate) fn extended(number: Option<u16>, byte: u8) -> Option<u16>
+    requires { (48 ≤ byte) × (byte < 58) }
+    ensures { (more : ℕ) → MatchOption result (act more number byte ≡ Stop) (λ v. act more number byte ≡ Digit v) }
+{
+    let digit = u16::from(byte - b'0');
+    match number {
+        None => Some(digit),
+        Some(v) if 0 < v && v < 100 => Some(10 * v + digit),
+        Some(_) => None,
     }
 }

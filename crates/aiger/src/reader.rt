@@ -1,225 +1,192 @@
-//! The reader of a text.
+//! A text byte by byte: its first word, its header, and the lines that the header announces.
 
-ghost use Rattle.std.specs.Prelude.{◌≡◌, ℕ, ◌+◌, ◌^◌, ◌<◌, ◌≤◌, List, [], ◌∷◌, IfOk, Ok, Err, MatchResult};
-ghost use Rattle.aiger.specs.Reads.{headed, read};
-ghost use Rattle.aiger.specs.States.{Begins, Closed, drawn, Ended, Fresh, go_on, Sound, Steps};
-ghost use Rattle.aiger.specs.Text.{text as text_of};
-ghost use Rattle.aiger.specs.declared.reader.Part.TheVariants.{Header, Inputs, Outputs, Gates};
-ghost use Rattle.drawing.specs.Drawing.{most_nodes, most_outputs};
-ghost use Rattle.drawing.specs.Tables.{drawing_of};
+ghost use Rattle.std.specs.Prelude.{◌≡◌, ◌+◌, ◌^◌, ◌<◌, ◌≤◌, ◌==◌, cond, length};
 
 use crate::draft::Draft;
-use crate::line::Line;
-use drawing::node::Pair;
+use crate::header::Header;
+use crate::line::{Line, extended};
+use crate::part::Part;
+use arrayvec::ArrayVec;
 use drawing::refusal::{Fault, Rule};
-use drawing::table::Table;
-use drawing::table::calls::{MOST_NODES, MOST_OUTPUTS};
 
 /// The word that a text begins with.
 const WORD: [u8; 4] = *b"aag ";
 
-/// The drawing of a text, or the text's first fault.
-pub fn read(text: &[u8]) -> Result<Table, Fault>
-    ensures reads { MatchResult result (λ t. read text.now ≡ Ok (drawing_of t)) (λ f. read text.now ≡ Err f) }
-    ensures back { IfOk result (λ t. text.now ≡ text_of (drawing_of t)) }
-{
-    let mut reader = Reader::new();
-    for byte in text {
-        reader.byte(*byte)?;
-    }
-    let draft = reader.finish()?;
-    Ok(draft.table())
-}
-
-/// The part of a text that a reader stands in.
-#[derive(Clone, Copy)]
-pub enum Part {
-    Header,
-    Inputs,
-    Outputs,
-    Gates,
-    End,
-}
-
-/// A reader in the middle of a text.
+/// A text that is being read, byte by byte.
 #[derive(Drop)]
-pub struct Reader {
-    part: Part,
-    /// The letters of the first word that it has read.
-    letters: usize,
-    line: Line,
-    /// How many lines of each part come after this one.
-    inputs: usize,
-    outputs: usize,
-    gates: usize,
-    draft: Draft,
+pub struct Reader<'a> {
+    /// The bytes to come.
+    rest: &'a [u8],
+    /// How many bytes came before.
+    pos: usize,
+    /// The line that they are in, counted from 0.
+    row: usize,
+    ghost ends: { pos + length rest.now < 2 ^ 64 },
+    ghost rows: { row ≤ pos },
 }
 
-impl Reader {
-    /// Before the first byte.
-    fn new() -> Reader
-        ensures sound { Sound result }
-        ensures start { (result.line.pos ≡ 0) × (((bs : List ℕ) → go_on result bs ≡ read bs)) }
+impl<'a> Reader<'a> {
+    ghost use Rattle.std.specs.Prelude.{ℕ, List, [], ◌∷◌, ◌++◌, replicate, drop, None, Ok, Err, MatchOption, MatchResult, ◌*◌};
+    ghost use Rattle.aiger.specs.Reads.{blank, plan, read, read_heading, Sheet, whole};
+    ghost use Rattle.aiger.specs.States.{Breaks, broken_at, drafted, due, Follows, NoDigit, Numbers, owed, Passes, scan_on};
+    ghost use Rattle.drawing.specs.Drawing.{drawing, most_nodes, most_outputs};
+
+    /// Before the first byte of the text.
+    pub(crate) fn new(text: &'a [u8]) -> Reader<'a>
+        ensures rest { result.rest.now ≡ text.now }
+        ensures start { (result.pos ≡ 0) × (result.row ≡ 0) }
     {
         Reader {
-            part: Part::Header,
-            letters: 0,
-            line: Line::first(),
-            inputs: 0,
-            outputs: 0,
-            gates: 0,
-            draft: Draft::new(),
+            rest: text,
+            pos: 0,
+            row: 0,
         }
     }
 
-    /// One more byte of the text: part and byte together decide what follows.
-    fn byte(&mut self, byte: u8) -> Result<(), Fault>
-        requires { (Sound self.old) × (self.old.line.pos + 1 < 2 ^ 64) }
-        ensures { Steps self.old byte result self.new }
+    /// The next byte breaks the pattern.
+    fn broken(&self) -> Fault
+        ensures { result ≡ broken_at self.now }
     {
-        match (self.part, byte) {
-            (Part::Header, _) if self.letters < 4 => self.letter(byte),
-            (Part::Header, b'\n') => {
-                self.line.close()?;
-                self.header()
-            }
-            (Part::Inputs, b'\n') => {
-                self.line.close()?;
-                self.input()
-            }
-            (Part::Outputs, b'\n') => {
-                self.line.close()?;
-                self.output()
-            }
-            (Part::Gates, b'\n') => {
-                self.line.close()?;
-                self.gate()
-            }
-            (Part::Header, _) => self.line.take(byte),
-            (Part::Inputs | Part::Outputs | Part::Gates, _) => self.line.take(byte),
-            (Part::End, _) => Err(self.line.broken()),
+        Fault {
+            rule: Rule::Pattern,
+            byte: self.pos,
+            line: self.row,
         }
     }
 
-    /// The text ends here.
-    fn finish(self) -> Result<Draft, Fault>
-        requires { Sound self }
-        ensures { MatchResult result (λ t. (go_on self [] ≡ Ok (drawn t)) × (t.count ≤ most_nodes) × (t.output_count ≤ most_outputs)) (λ f. go_on self [] ≡ Err f) }
+    /// Passes the next byte, where it is this one.
+    fn pass(&mut self, wanted: u8) -> Result<(), Fault>
+        ensures { MatchResult result (λ _. (self.old.rest.now ≡ wanted ∷ self.new.rest.now) × (self.new.pos ≡ self.old.pos + 1) × (self.new.row ≡ self.old.row)) (λ f. (f ≡ broken_at self.old) × ((bs : List ℕ) → self.old.rest.now ≡ wanted ∷ bs → ⊥)) }
     {
-        match self.part {
-            Part::End => Ok(self.draft),
-            _ => Err(self.line.broken()),
+        match self.rest {
+            [byte, rest @ ..] if *byte == wanted => {
+                self.rest = rest;
+                self.pos += 1;
+                Ok(())
+            }
+            _ => Err(self.broken()),
         }
     }
 
-    /// A letter of the first word.
-    fn letter(&mut self, byte: u8) -> Result<(), Fault>
-        requires { (Sound self.old) × ((self.old.part ≡ Header) × ((self.old.letters < 4) × (self.old.line.pos + 1 < 2 ^ 64))) }
-        ensures { Steps self.old byte result self.new }
+    /// The next byte, where it is a digit.
+    fn digit(&self) -> Option<u8>
+        ensures { MatchOption result (NoDigit self.now.rest.now) (λ b. (48 ≤ b) × (b < 58) × (self.now.rest.now ≡ b ∷ drop 1 self.now.rest.now)) }
     {
-        if byte != WORD[self.letters] {
-            return Err(self.line.broken());
+        match self.rest {
+            [byte @ b'0'..=b'9', ..] => Some(*byte),
+            _ => None,
         }
-        self.letters += 1;
-        self.line.pos += 1;
+    }
+
+    /// Passes one byte.
+    fn advance(&mut self)
+        requires { 0 < length self.old.rest.now }
+        ensures rest { self.new.rest.now ≡ drop 1 self.old.rest.now }
+        ensures place { (self.new.pos ≡ self.old.pos + 1) × (self.new.row ≡ self.old.row) }
+    {
+        self.rest = &self.rest[1..];
+        self.pos += 1;
+    }
+
+    /// The next number, up to its last digit.
+    fn digits(&mut self) -> Result<u16, Fault>
+        ensures { MatchResult result (λ v. Numbers self.old v self.new) (λ f. (more : ℕ) (done : List ℕ) → Breaks (scan_on more done None self.old) self.old.row f) }
+    {
+        let mut number = None;
+        while let Some(byte) = self.digit() {
+            let Some(longer) = extended(number, byte) else {
+                return Err(self.broken());
+            };
+            number = Some(longer);
+            self.advance();
+        }
+        match number {
+            Some(v) => Ok(v),
+            None => Err(self.broken()),
+        }
+    }
+
+    /// The next number of a line, with its end: the line's, where no more numbers come after it, and else a space.
+    fn number(&mut self, more: usize) -> Result<u16, Fault>
+        ensures { MatchResult result (λ v. Passes more self.old v self.new) (λ f. (done : List ℕ) → Breaks (scan_on more done None self.old) self.old.row f) }
+    {
+        let number = self.digits()?;
+        self.pass(end_of(more))?;
+        Ok(number)
+    }
+
+    /// The next line, which has `width` numbers after its first.
+    fn line(&mut self, width: usize) -> Result<Line, Fault>
+        requires { width < 5 }
+        ensures { MatchResult result (λ l. (scan_on width [] None self.old ≡ whole l.numbers.items self.new.pos self.new.rest.now) × (length l.numbers.items ≡ width + 1) × (l.start ≡ self.old.pos) × (l.row ≡ self.old.row) × (self.new.row ≡ self.old.row + 1)) (λ f. Breaks (scan_on width [] None self.old) self.old.row f) }
+    {
+        let start = self.pos;
+        let row = self.row;
+        let mut numbers = ArrayVec::new();
+        for i in 0..width {
+            numbers.push(self.number(width - i)?);
+        }
+        numbers.push(self.number(0)?);
+        self.row += 1;
+        Ok(Line {
+            numbers,
+            row,
+            start,
+        })
+    }
+
+    /// The first word.
+    pub(crate) fn word(&mut self) -> Result<(), Fault>
+        requires { (self.old.pos ≡ 0) × (self.old.row ≡ 0) }
+        ensures { MatchResult result (λ _. (read self.old.rest.now ≡ read_heading (scan_on 4 [] None self.new)) × (self.new.row ≡ 0)) (λ f. read self.old.rest.now ≡ Err f) }
+    {
+        for letter in WORD {
+            self.pass(letter)?;
+        }
         Ok(())
     }
 
     /// The header's figures.
-    fn header(&mut self) -> Result<(), Fault>
-        requires { (Closed self.old) × ((self.old.part ≡ Header) × (Fresh self.old)) }
-        ensures { Ended self.old result self.new }
+    pub(crate) fn header(&mut self) -> Result<Header, Fault>
+        requires { self.old.row ≡ 0 }
+        ensures { MatchResult result (λ h. (read_heading (scan_on 4 [] None self.old) ≡ owed (plan h.inputs h.outputs h.gates) (blank h.last) self.new) × (h.last < most_nodes) × (h.outputs ≤ most_outputs)) (λ f. read_heading (scan_on 4 [] None self.old) ≡ Err f) }
     {
-        let [nodes, inputs, latches, outputs, gates] = self.line.fields;
-        if !figures(nodes, inputs, latches, outputs, gates) {
-            return Err(Fault {
-                rule: Rule::Figures,
-                byte: 0,
-                line: 0,
-            });
+        let line = self.line(4)?;
+        Header::of(&line.numbers).ok_or(Fault {
+            rule: Rule::Figures,
+            byte: 0,
+            line: 0,
+        })
+    }
+
+    /// The lines of a part.
+    pub(crate) fn lines(&mut self, part: Part, count: usize, draft: &mut Draft) -> Result<(), Fault>
+        requires { length (drafted draft.old).outputs + count * due part ≤ most_outputs }
+        ensures { MatchResult result (λ _. Follows part count draft.old self.old draft.new self.new) (λ f. (ps : List Part) → owed (replicate count part ++ ps) (drafted draft.old) self.old ≡ Err f) }
+    {
+        for _i in 0..count {
+            let line = self.line(part.width())?;
+            let Some(()) = draft.put(part, &line.numbers) else {
+                return Err(line.misplaced());
+            };
         }
-        self.draft.count = usize::from(nodes) + 1;
-        self.inputs = usize::from(inputs);
-        self.outputs = usize::from(outputs);
-        self.gates = usize::from(gates);
-        self.next();
         Ok(())
     }
 
-    /// The literal of an input.
-    fn input(&mut self) -> Result<(), Fault>
-        requires { (Closed self.old) × (self.old.part ≡ Inputs) }
-        ensures { Ended self.old result self.new }
+    /// The end of the text.
+    pub(crate) fn end(&self) -> Result<(), Fault>
+        ensures { (sh : Sheet) → MatchResult result (λ _. owed [] sh self.now ≡ Ok (drawing sh.nodes sh.outputs)) (λ f. owed [] sh self.now ≡ Err f) }
     {
-        let literal = self.line.fields[0];
-        let otherwise = self.line.misplaced();
-        self.draft.input(literal, otherwise)?;
-        self.next();
-        Ok(())
-    }
-
-    /// The literal of an output.
-    fn output(&mut self) -> Result<(), Fault>
-        requires { (Closed self.old) × (self.old.part ≡ Outputs) }
-        ensures { Ended self.old result self.new }
-    {
-        let literal = self.line.fields[0];
-        let otherwise = self.line.misplaced();
-        self.draft.output(literal, otherwise)?;
-        self.next();
-        Ok(())
-    }
-
-    /// The literal of a gate, and its two fanin literals.
-    fn gate(&mut self) -> Result<(), Fault>
-        requires { (Closed self.old) × (self.old.part ≡ Gates) }
-        ensures { Ended self.old result self.new }
-    {
-        let literal = self.line.fields[0];
-        let pair = Pair {
-            left: self.line.fields[1],
-            right: self.line.fields[2],
-        };
-        let otherwise = self.line.misplaced();
-        self.draft.gate(literal, pair, otherwise)?;
-        self.next();
-        Ok(())
-    }
-
-    /// The next line begins, and with it perhaps another part.
-    fn next(&mut self)
-        requires { (self.old.draft.count ≤ most_nodes) × ((self.old.draft.output_count + self.old.outputs ≤ most_outputs) × (self.old.line.row < self.old.line.pos)) }
-        ensures { Begins self.old self.new }
-    {
-        self.line.row += 1;
-        self.line.start = self.line.pos;
-        self.line.field = 0;
-        self.line.number = None;
-        if self.inputs > 0 {
-            self.inputs -= 1;
-            self.part = Part::Inputs;
-            self.line.more = 0;
-        } else if self.outputs > 0 {
-            self.outputs -= 1;
-            self.part = Part::Outputs;
-            self.line.more = 0;
-        } else if self.gates > 0 {
-            self.gates -= 1;
-            self.part = Part::Gates;
-            self.line.more = 2;
-        } else {
-            self.part = Part::End;
-            self.line.more = 0;
+        if !self.rest.is_empty() {
+            return Err(self.broken());
         }
+        Ok(())
     }
 }
 
-/// Whether the header's figures are inside the rules.
-fn figures(nodes: u16, inputs: u16, latches: u16, outputs: u16, gates: u16) -> bool
-    ensures { result ≡ headed (nodes ∷ inputs ∷ latches ∷ outputs ∷ gates ∷ []) }
+/// The byte behind a number: the line's end, where no more numbers come after it, and else a space.
+fn end_of(more: usize) -> u8
+    ensures { result ≡ cond (more == 0) 10 32 }
 {
-    latches == 0
-        && u32::from(nodes) == u32::from(inputs) + u32::from(gates)
-        && usize::from(nodes) < MOST_NODES
-        && usize::from(outputs) <= MOST_OUTPUTS
+    if more == 0 { b'\n' } else { b' ' }
 }

@@ -33,3 +33,8 @@ returns c =
     subst (λ ts. Copied ts c.args.buffer.now c.copy_to.result c.copy_to.new.buffer)
     (a.text ∙ ap (λ l. l ++ text (drawing ns ls)) c.new-page.ensures.0 ∙ (λ i. text (drawing (e i) (f i))))
     c.copy_to.ensures
+
+pub put_inputs-requires : goal.put_inputs-requires
+put_inputs-requires c =
+    let h = lent _ _ _ _ c.args.table.now.law c.nodes-nodes.ensures c.outputs-outputs.ensures in
+    (omega (arith, c.new-page.ensures.1, c.put_header.ensures.room), h.nodes_few)
