@@ -1,5 +1,5 @@
 -- The table of arrivals, filled from below: a needed gate takes its cut from the list at hand, and every other node has the start.
-use Rattle.std.proofs.Common.{◌≡◌, ℕ, ◌+◌, ◌<◌, ◌≤◌, Bool, true, false, not, ◌≢◌, List, [], ◌∷◌, map, length, get_or, set, sym, refl, ap, ◌∙◌, subst, inl, ⊎_elim, arith}
+use Rattle.std.proofs.Common.{◌≡◌, ℕ, ◌+◌, ◌<◌, ◌≤◌, true, false, not, ◌≢◌, Option, Some, None, MatchOption, List, [], ◌∷◌, map, length, get_or, set, sym, refl, ap, ◌∙◌, inl, ⊎_elim, arith}
 use Rattle.std.proofs.lemmas.Bool.{and_parts, cases_Bool, cases_eq, cond-true, cond-false, and_left, and_right, not_from_true, not_from_false, and_from}
 use Rattle.std.proofs.lemmas.List.{get_or-set_same, get_or-set_other, length-set, get_or-map}
 use Rattle.drawing.specs.declared.node.Node.{Node}
@@ -17,20 +17,6 @@ use Rattle.choice.specs.Choice.{taken, best, taken_cut, tabled, Filled, cut_at, 
 use Rattle.choice.proofs.Optimal.{best_plain}
 use Rattle.choice.proofs.OwnCover.{list_some}
 use Rattle.choice.proofs.Needed.{needed_suffice}
-
--- one step, at a needed gate and elsewhere
-module _ {A : Type 0} (F : Delay A) (table : List A) (sets : List (List ℕ)) (here : Bool) where
-  pub cut_taken_lem : (s : List ℕ) → here ≡ true → s ≡ taken F table sets → s ≡ cut_by F table sets here
-  cut_taken_lem s h e = subst (λ b. s ≡ cut_by F table sets b) (sym h) e
-
-  pub arrival_taken : (s : List ℕ) (x : A) → here ≡ true → s ≡ taken F table sets → x ≡ cell_arrival F table s → x ≡ arrival_by F table sets here
-  arrival_taken s x h e a = subst (λ b. x ≡ arrival_by F table sets b) (sym h) (a ∙ ap (cell_arrival F table) e)
-
-  pub cut_none : (s : List ℕ) → here ≡ false → s ≡ [] → s ≡ cut_by F table sets here
-  cut_none s h e = subst (λ b. s ≡ cut_by F table sets b) (sym h) e
-
-  pub arrival_none : (x : A) → here ≡ false → x ≡ F.start → x ≡ arrival_by F table sets here
-  arrival_none x h e = subst (λ b. x ≡ arrival_by F table sets b) (sym h) e
 
 module _ (nodes : List Node) (outs : List ℕ) (law : lawful (drawing nodes outs) ≡ true) (k : ℕ) where
   -- a list in any order has the cuts of the gate's list, all of them below the gate
@@ -57,39 +43,34 @@ module _ (nodes : List Node) (outs : List ℕ) (law : lawful (drawing nodes outs
       (λ g. sym (best_plain F L nodes k v l g) ∙ sym (cond-false _ _ _ (and_left (is_gate (at nodes v)) (not (needed nodes outs v)) g)))
       (cases_Bool (is_gate (at nodes v)))
 
-  module _ {A : Type 0} (F : Delay A) (L : Laws F) (wide : 2 ≤ k) (v : ℕ) (table : List A) (sets : List (List ℕ)) (filled : Filled F nodes outs k v table) where
-    suffices : needed nodes outs v ≡ true → Alike sets (least_cuts nodes k v) → (taken F table sets ≡ taken_cut F nodes k v) × (cell_arrival F table (taken F table sets) ≡ get_or (best F nodes k) v F.start)
-    suffices n a =
+  -- a list is at hand for a needed gate alone, and has the cuts of the gate's list in any order
+  abbrev pub AtHand : ℕ → Option (List (List ℕ)) → Type 0
+  AtHand v list = MatchOption list (needed nodes outs v ≡ false) (λ sets. (needed nodes outs v ≡ true) × Alike sets (least_cuts nodes k v))
+
+  module _ {A : Type 0} (F : Delay A) (L : Laws F) (wide : 2 ≤ k) (v : ℕ) (table : List A) (filled : Filled F nodes outs k v table) where
+    suffices : (sets : List (List ℕ)) → needed nodes outs v ≡ true → Alike sets (least_cuts nodes k v) → (taken F table sets ≡ taken_cut F nodes k v) × (cell_arrival F table (taken F table sets) ≡ get_or (best F nodes k) v F.start)
+    suffices sets n a =
         let w = lawful_says nodes outs law in
         needed_suffice F L nodes outs k v table sets w.nodes_sound wide w.outputs_named n filled a
 
-    module _ (here : Bool) (same : here ≡ needed nodes outs v) (list : here ≡ true → Alike sets (least_cuts nodes k v)) where
-      -- a needed gate takes its cut, and every other node none
-      pub cut_right : cut_by F table sets here ≡ cut_at F nodes outs k v
-      cut_right =
-          ⊎_elim
-          (λ (h : here ≡ true). subst (λ b. cut_by F table sets b ≡ cut_at F nodes outs k v) (sym h) ((suffices (sym same ∙ h) (list h)).0 ∙ sym (cond-true _ _ _ (sym same ∙ h))))
-          (λ (h : here ≡ false). subst (λ b. cut_by F table sets b ≡ cut_at F nodes outs k v) (sym h) (sym (cond-false (needed nodes outs v) _ _ (sym same ∙ h))))
-          (cases_Bool here)
+    -- a needed gate takes its cut, and every other node none
+    pub cut_right : (list : Option (List (List ℕ))) → AtHand v list → cut_by F table list ≡ cut_at F nodes outs k v
+    cut_right None n = sym (cond-false _ _ _ n)
+    cut_right (Some sets) h = (suffices sets h.0 h.1).0 ∙ sym (cond-true _ _ _ h.0)
 
-      arrival_right : v < length nodes → arrival_by F table sets here ≡ tabled F nodes outs k v
-      arrival_right l =
-          ⊎_elim
-          (λ (h : here ≡ true).
-          let n = sym same ∙ h in
-          subst (λ b. arrival_by F table sets b ≡ tabled F nodes outs k v) (sym h) ((suffices n (list h)).1 ∙ sym (cond-false _ _ _ (and_right (is_gate (at nodes v)) _ (not_from_true _ n)))))
-          (λ (h : here ≡ false). subst (λ b. arrival_by F table sets b ≡ tabled F nodes outs k v) (sym h) (plain_tabled F L v l (sym same ∙ h)))
-          (cases_Bool here)
+    arrival_right : (list : Option (List (List ℕ))) → AtHand v list → v < length nodes → arrival_by F table list ≡ tabled F nodes outs k v
+    arrival_right None n l = plain_tabled F L v l n
+    arrival_right (Some sets) h l = (suffices sets h.0 h.1).1 ∙ sym (cond-false _ _ _ (and_right (is_gate (at nodes v)) _ (not_from_true _ h.0)))
 
-      -- one more node
-      pub filled_more : (new : List A) → v < length nodes → v < length table → new ≡ set table v (arrival_by F table sets here) → Filled F nodes outs k (v + 1) new
-      filled_more new l room e u h =
-          let x = arrival_by F table sets here in
-          ap (λ z. get_or z u F.start) e
-          ∙ ⊎_elim
-          (λ (s : u ≡ v). ap (λ z. get_or (set table v x) z F.start) s ∙ get_or-set_same table v x F.start room ∙ arrival_right l ∙ ap (tabled F nodes outs k) (sym s))
-          (λ (s : u ≢ v). get_or-set_other table v u x F.start s ∙ filled u (omega arith))
-          (cases_eq u v)
+    -- one more node
+    pub filled_more : (list : Option (List (List ℕ))) → AtHand v list → (new : List A) → v < length nodes → v < length table → new ≡ set table v (arrival_by F table list) → Filled F nodes outs k (v + 1) new
+    filled_more list h new l room e u b =
+        let x = arrival_by F table list in
+        ap (λ z. get_or z u F.start) e
+        ∙ ⊎_elim
+        (λ (s : u ≡ v). ap (λ z. get_or (set table v x) z F.start) s ∙ get_or-set_same table v x F.start room ∙ arrival_right list h l ∙ ap (tabled F nodes outs k) (sym s))
+        (λ (s : u ≢ v). get_or-set_other table v u x F.start s ∙ filled u (omega arith))
+        (cases_eq u v)
 
 -- one more cut, among those by node
 pub chosen_more : {A X : Type 0} (F : Delay A) (nodes : List Node) (outs : List ℕ) (k : ℕ) (f : X → List ℕ) (xs : List X) (v : ℕ) (x : X) → v < length xs → Chosen F nodes outs k v (map f xs) → f x ≡ cut_at F nodes outs k v → Chosen F nodes outs k (v + 1) (map f (set xs v x))

@@ -2,7 +2,7 @@
 use Rattle.std.proofs.Common.{◌≡◌, ℕ, zero, suc, ◌-◌, ◌<◌, ◌≤◌, Bool, true, false, ◌||◌, eqb, ltb, ◌≢◌, ◌⊎◌, List, [], ◌∷◌, map, length, get_or, set, sym, refl, ap, ◌∙◌, subst, inl, inr, ⊎_elim, arith}
 use Rattle.std.proofs.lemmas.Bool.{and_parts, or_cases, or_left, or_right, both_ways, eqb-true, eq-eqb, ne_eqb, cases_eq, ltb-true, lt-ltb}
 use Rattle.std.proofs.lemmas.Bool.Decides.{same_from_decides}
-use Rattle.std.proofs.lemmas.List.{get_or-set_same, get_or-set_other, length-set, get_or-map}
+use Rattle.std.proofs.lemmas.List.{get_or-set_same, get_or-set_other, length-set}
 use Rattle.drawing.specs.Sets.{mem, below, In}
 use Rattle.drawing.specs.declared.node.Node.{Node}
 use Rattle.drawing.specs.Drawing.{drawing, at, node_of, fanins, lawful}
@@ -13,7 +13,7 @@ use Rattle.drawing.proofs.SetLaws.{below_more}
 use Rattle.drawing.proofs.ReachLaws.{reach_ways, reach_range, out_direct, out_down}
 use Rattle.drawing.proofs.Sound.{sound_at_lem}
 use Rattle.drawing.proofs.Lawful.{lawful_says}
-use Rattle.choice.specs.Marks.{mark_all, Marks, leaves_at, edges_by}
+use Rattle.choice.specs.Marks.{mark_all, Marks}
 
 pub length_marks : (marks : List Bool) (us : List ℕ) → length (mark_all marks us) ≡ length marks
 length_marks marks [] = refl
@@ -117,9 +117,9 @@ module _ (edges : ℕ → List ℕ) (size : ℕ) (outs : List ℕ) where
             let k = m.named r.0 r.1 in
             ⊎_elim (λ e. let f = eqb-true (node_of r.0) v e in rw (← f) k) (λ e. down' marks m (suc (node_of r.0)) (node_of r.0) v (omega arith) k e) (or_cases _ _ r.2)
 
--- an output names a node that has a mark
-pub output_within : (n : ℕ) (outs : List ℕ) (i : ℕ) → below n (map node_of outs) ≡ true → i < length outs → node_of (get_or outs i 0) < n
-output_within n outs i b l = ltb-true _ n (every_at (λ o. ltb (node_of o) n) outs i 0 (sym (every_map (λ u. ltb u n) node_of outs) ∙ b) l)
+-- each node that is named is below n if all are
+pub named_below : {X : Type 0} (node : X → ℕ) (n : ℕ) (names : List X) (i : ℕ) (x : X) → below n (map node names) ≡ true → i < length names → x ≡ get_or names i x → node x < n
+named_below node n names i x b l e = ltb-true (node x) n (ap (λ z. ltb (node z) n) e ∙ every_at (λ z. ltb (node z) n) names i x (sym (every_map (λ u. ltb u n) node names) ∙ b) l)
 
 -- in a lawful drawing the fanins stand below, and the outputs name nodes
 module _ (nodes : List Node) (outs : List ℕ) (law : lawful (drawing nodes outs) ≡ true) where
@@ -128,7 +128,3 @@ module _ (nodes : List Node) (outs : List ℕ) (law : lawful (drawing nodes outs
 
   pub outputs_within : (n : ℕ) → length nodes ≤ n → below n (map node_of outs) ≡ true
   outputs_within n l = every_map (λ u. ltb u n) node_of outs ∙ in_every (λ o. ltb (node_of o) n) outs (λ o i. lt-ltb _ n (omega (arith, (lawful_says nodes outs law).outputs_named o i)))
-
--- the leaves of the cut that stands at u
-pub leaves_here : {X : Type 0} (f : X → List ℕ) (nodes : List Node) (xs : List X) (u : ℕ) (x : X) → u < length xs → x ≡ get_or xs u x → leaves_at (at nodes u) (f x) ≡ edges_by nodes (map f xs) u
-leaves_here f nodes xs u x l e = ap (leaves_at (at nodes u)) (ap f e ∙ sym (get_or-map f xs u x [] l))

@@ -1,5 +1,5 @@
 -- How map chooses: the cut that each gate takes, the best arrivals, and the cells.
-use Rattle.std.specs.Prelude.{◌≡◌, ℕ, ◌<◌, Bool, true, false, cond, not, ◌&&◌, ◌||◌, List, [], ◌∷◌, length, get_or, take, ◌==◌, nat_lt, slice_index_or}
+use Rattle.std.specs.Prelude.{◌≡◌, ℕ, ◌<◌, Bool, true, false, cond, not, ◌&&◌, ◌||◌, Option, Some, None, List, [], ◌∷◌, length, get_or, take, ◌==◌, nat_lt, slice_index_or}
 use Rattle.std.specs.List.{range_with_len}
 use Rattle.drawing.specs.declared.node.Node.{Node}
 use Rattle.drawing.specs.declared.node.Node.TheVariants.{Constant, Input, Gate}
@@ -73,13 +73,15 @@ module _ {A : Type 0} (F : Delay A) where
   abbrev pub Filled : List Node → List ℕ → ℕ → ℕ → List A → Type 0
   Filled nodes outs k v table = (u : ℕ) → u < v → slice_index_or table u F.start ≡ tabled nodes outs k u
 
-  -- the cut that a node takes from its list where it is a needed gate, and no leaves elsewhere
-  abbrev pub cut_by : List A → List (List ℕ) → Bool → List ℕ
-  cut_by table sets here = let s = taken table sets in cond here s []
+  -- the cut that a node takes from its list, which a needed gate has, and no leaves where there is no list
+  abbrev pub cut_by : List A → Option (List (List ℕ)) → List ℕ
+  cut_by table None = []
+  cut_by table (Some sets) = taken table sets
 
-  -- the arrival of a node by the cut that it takes, and the start where it is no needed gate
-  abbrev pub arrival_by : List A → List (List ℕ) → Bool → A
-  arrival_by table sets here = let x = cell_arrival F table (taken table sets) in cond here x F.start
+  -- the arrival of a node by the cut that it takes, and the start where there is no list
+  abbrev pub arrival_by : List A → Option (List (List ℕ)) → A
+  arrival_by table None = F.start
+  arrival_by table (Some sets) = cell_arrival F table (taken table sets)
 
   -- the cut that a needed gate takes, and no leaves at any other node
   abbrev pub cut_at : List Node → List ℕ → ℕ → ℕ → List ℕ

@@ -9,11 +9,9 @@ ghost use Rattle.choice.specs.Rivals.{BestIsFirst, BestIsReached, NeededSuffice,
 use family::Family;
 
 /// What is proved of the choice, for every family.
-pub fn choice_stands<F: Family>(family: &F) -> u8
+pub fn choice_stands<F: Family>(family: &F)
     ensures first { BestIsFirst (F.delay family.now) }
     ensures reached { BestIsReached (F.delay family.now) }
     ensures outputs { OutputsFirst (F.delay family.now) }
     ensures needed { NeededSuffice (F.delay family.now) }
-{
-    0
-}
+{}

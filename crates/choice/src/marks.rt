@@ -1,85 +1,119 @@
 //! Marking what the outputs reach: one pass by falling number, since edges lead downwards.
 
-ghost use Rattle.std.specs.Prelude.{◌≡◌, ℕ, ◌<◌, ◌≤◌, true, map, length};
-ghost use Rattle.choice.specs.Marks.{edges_by, leaves_at, mark_all, Marks};
+ghost use Rattle.std.specs.Prelude.{◌≡◌, ℕ, ◌<◌, ◌≤◌, List, true, map, length};
+ghost use Rattle.choice.specs.Marks.{edges_by, mark_all, Marks};
 ghost use Rattle.cuts.specs.Leaves.{leaves_of, sets_of};
-ghost use Rattle.drawing.specs.Drawing.{at, drawing, fanins, lawful, node_of};
+ghost use Rattle.drawing.specs.Drawing.{at, fanins, node_of};
 ghost use Rattle.drawing.specs.Sets.{below};
+ghost use Rattle.drawing.specs.Tables.{drawing_of};
 
 use cuts::cut::Cut;
 use drawing::node::Node;
+use drawing::table::Table;
 use drawing::table::calls::MOST_NODES;
 
-/// Marks the nodes that the outputs name.
-fn mark_outputs(outputs: &[u16], marks: &mut [bool])
-    requires { below (length marks.old) (map node_of outputs.now) ≡ true }
-    ensures { marks.new ≡ mark_all marks.old (map node_of outputs.now) }
-{
-    for output in outputs {
-        marks[(*output / 2) as usize] = true;
+/// What names a node: a leaf names itself, and a literal the node that it is of.
+trait Name: Copy {
+    ghost node: { Self → ℕ };
+
+    /// The node's number.
+    fn node(self) -> usize
+        ensures { result ≡ node self };
+}
+
+impl Name for u8 {
+    ghost node = { λ leaf. leaf };
+
+    fn node(self) -> usize {
+        usize::from(self)
     }
 }
 
-/// Marks the fanins of a node.
-fn mark_fanins(node: Node, marks: &mut [bool])
-    requires { below (length marks.old) (fanins node) ≡ true }
-    ensures { marks.new ≡ mark_all marks.old (fanins node) }
-{
-    if let Node::Gate(pair) = node {
-        marks[(pair.left / 2) as usize] = true;
-        marks[(pair.right / 2) as usize] = true;
+impl Name for u16 {
+    ghost node = { node_of };
+
+    fn node(self) -> usize {
+        usize::from(self / 2)
     }
 }
 
-/// Marks each node that some output depends on. A gate is needed if it is marked.
-pub fn reached(nodes: &[Node], outputs: &[u16]) -> [bool; 256]
-    requires { lawful (drawing nodes.now outputs.now) ≡ true }
-    ensures { Marks (λ w. fanins (at nodes.now w)) (length nodes.now) outputs.now result }
+/// Marks the nodes that are named.
+fn mark<T: Name>(names: &[T], marks: &mut [bool])
+    requires { below (length marks.old) (map T.node names.now) ≡ true }
+    ensures { marks.new ≡ mark_all marks.old (map T.node names.now) }
+{
+    for name in names {
+        marks[name.node()] = true;
+    }
+}
+
+/// Edges from nodes to nodes. `leads` says where those of a node lead.
+trait Edges {
+    ghost leads: { Self → ℕ → List ℕ };
+
+    /// Marks what the edges of node `v` lead to.
+    fn mark_from(&self, v: usize, marks: &mut [bool])
+        requires { below (length marks.old) (leads self.now v) ≡ true }
+        ensures { marks.new ≡ mark_all marks.old (leads self.now v) };
+}
+
+/// From a gate to its fanins.
+impl Edges for Table {
+    ghost leads = { λ t v. fanins (at (drawing_of t).nodes v) };
+
+    fn mark_from(&self, v: usize, marks: &mut [bool]) {
+        if let Some(Node::Gate(pair)) = self.nodes().get(v) {
+            mark(&[pair.left, pair.right], marks);
+        }
+    }
+}
+
+/// From a gate to the leaves of its cut, of which there is one for each node.
+#[derive(Drop)]
+struct Cuts<'a> {
+    table: &'a Table,
+    cuts: &'a [Cut],
+    ghost each: { length (drawing_of table.now).nodes ≤ length cuts.now },
+}
+
+impl<'a> Edges for Cuts<'a> {
+    ghost leads = { λ e. edges_by (drawing_of e.table.now).nodes (sets_of e.cuts.now) };
+
+    fn mark_from(&self, v: usize, marks: &mut [bool]) {
+        if let Some(Node::Gate(_)) = self.table.nodes().get(v) {
+            mark(self.cuts[v].leaves(), marks);
+        }
+    }
+}
+
+/// Marks each node that the outputs reach by edges that lead downwards.
+fn sweep<E: Edges>(table: &Table, edges: &E) -> [bool; 256]
+    requires { (v : ℕ) → v < length (drawing_of table.now).nodes → below v (E.leads edges.now v) ≡ true }
+    ensures { Marks (E.leads edges.now) (length (drawing_of table.now).nodes) (drawing_of table.now).outputs result }
 {
     let mut marks = [false; MOST_NODES];
-    mark_outputs(outputs, &mut marks);
-    for v in (0..nodes.len()).rev() {
+    mark(table.outputs(), &mut marks);
+    for v in (0..table.nodes().len()).rev() {
         if marks[v] {
-            mark_fanins(nodes[v], &mut marks);
+            edges.mark_from(v, &mut marks);
         }
     }
     marks
 }
 
-/// Marks the leaves.
-fn mark_leaves(leaves: &[u8], marks: &mut [bool])
-    requires { below (length marks.old) leaves.now ≡ true }
-    ensures { marks.new ≡ mark_all marks.old leaves.now }
+/// Marks each node that some output depends on. A gate is needed if it is marked.
+pub fn reached(table: &Table) -> [bool; 256]
+    ensures { Marks (λ w. fanins (at (drawing_of table.now).nodes w)) (length (drawing_of table.now).nodes) (drawing_of table.now).outputs result }
 {
-    for leaf in leaves {
-        marks[*leaf as usize] = true;
-    }
-}
-
-/// Marks the leaves of the cut, if the node is a gate.
-fn mark_cut(node: Node, cut: &Cut, marks: &mut [bool])
-    requires { below (length marks.old) (leaves_at node (leaves_of cut.now)) ≡ true }
-    ensures { marks.new ≡ mark_all marks.old (leaves_at node (leaves_of cut.now)) }
-{
-    if node.is_gate() {
-        mark_leaves(cut.leaves(), marks);
-    }
+    sweep(table, table)
 }
 
 /// Marks each node that the outputs reach through the cuts, of which there is one for each node: a gate leads to the leaves of
 /// its cut, and no other node leads on. A gate is a cell if it is marked.
-pub fn reached_by(nodes: &[Node], outputs: &[u16], cuts: &[Cut]) -> [bool; 256]
-    requires law { lawful (drawing nodes.now outputs.now) ≡ true }
-    requires each { length nodes.now ≤ length cuts.now }
-    requires under { (v : ℕ) → v < length nodes.now → below v (edges_by nodes.now (sets_of cuts.now) v) ≡ true }
-    ensures { Marks (edges_by nodes.now (sets_of cuts.now)) (length nodes.now) outputs.now result }
+pub fn reached_by(table: &Table, cuts: &[Cut]) -> [bool; 256]
+    requires each { length (drawing_of table.now).nodes ≤ length cuts.now }
+    requires under { (v : ℕ) → v < length (drawing_of table.now).nodes → below v (edges_by (drawing_of table.now).nodes (sets_of cuts.now) v) ≡ true }
+    ensures { Marks (edges_by (drawing_of table.now).nodes (sets_of cuts.now)) (length (drawing_of table.now).nodes) (drawing_of table.now).outputs result }
 {
-    let mut marks = [false; MOST_NODES];
-    mark_outputs(outputs, &mut marks);
-    for v in (0..nodes.len()).rev() {
-        if marks[v] {
-            mark_cut(nodes[v], &cuts[v], &mut marks);
-        }
-    }
-    marks
+    sweep(table, &Cuts { table, cuts })
 }
