@@ -7,6 +7,7 @@ ghost use Rattle.flow.specs.Listing.{cell_list, Listed, place_of, Printed};
 use blif::section::{sections, write_section};
 use cells::cover::Cover;
 use drawing::refusal::Refusal;
+use drawing::table::calls::MOST_NODES;
 use family::levels::Levels;
 use fitter::job::Job;
 
@@ -22,6 +23,7 @@ pub fn write_sections(cover: &Cover, out: &mut [u8]) -> Result<usize, Refusal>
     ensures within { IfOk result (λ n. n ≤ length out.new) }
     ensures printed { Printed (cell_list (netlist_of cover.now)) out.old result out.new }
 {
+    // the answer is how many bytes are written, so their number is kept, and not a slice that shrinks
     let mut at = 0;
     for section in 0..sections(cover) {
         let part = &mut out[at..];
@@ -43,7 +45,7 @@ pub fn cell_list(text: &[u8], out: &mut [u8]) -> Result<usize, Refusal>
     job.load(text)?;
     let family = Levels::new(WIDTH)?;
     let mut cover = Cover::new();
-    let mut arrivals = [0u16; 256];
+    let mut arrivals = [0; MOST_NODES];
     let _ = job.map(&family, &mut cover, &mut arrivals)?;
     write_sections(&cover, out)
 }
