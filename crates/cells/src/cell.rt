@@ -5,7 +5,7 @@ ghost use Rattle.drawing.specs.Drawing.{most_leaves};
 ghost use Rattle.cells.specs.Netlist.{leaves_of};
 
 /// The root, the leaves by rising number (`count` of them, then zeros), and the truth table.
-#[derive(Clone, Copy)]
+#[derive(Clone, Copy, Debug, PartialEq, Eq)]
 pub struct Cell {
     pub root: u8,
     pub count: u8,

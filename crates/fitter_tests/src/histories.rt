@@ -1,9 +1,9 @@
 //! Histories of calls: what a job answers depends on its drawing and its width, not on how it came to them.
 
-use crate::compare::{made, map_levels, same_cover, same_drawing, same_kept, same_levels};
+ghost use Rattle.std.specs.Iterator.{IsFinite};
+
+use crate::compare::{Mapped, made, pair, same_drawing, same_kept};
 use aiger::write;
-use cells::cover::Cover;
-use drawing::node::Pair;
 use drawing::refusal::Refusal;
 use family::Family;
 use family_tests::ranks::{Rank, Ranks};
@@ -41,14 +41,11 @@ fn drawn(gates: &[(u16, u16)], width: u8) -> Result<Job, Refusal> {
 
 /// Whether both jobs have one drawing, and map to one cover, the same arrivals and the same lists.
 fn agree(job: &mut Job, twin: &mut Job) -> Result<bool, Refusal> {
-    let mut cover = Cover::new();
-    let mut arrivals = [0; 256];
-    let (cells, _) = map_levels(job, &mut cover, &mut arrivals)?;
-    let mut other = Cover::new();
-    let mut others = [0; 256];
-    let (again, _) = map_levels(twin, &mut other, &mut others)?;
-    let same = same_drawing(job, twin) && same_cover(&cover, &other);
-    Ok(cells == again && same && same_levels(&arrivals, &others) && same_kept(job, twin))
+    let mut mapped = Mapped::filled(0);
+    let (cells, _) = mapped.map_levels(job)?;
+    let mut other = Mapped::filled(0);
+    let (again, _) = other.map_levels(twin)?;
+    Ok(cells == again && same_drawing(job, twin) && mapped.same(&other) && same_kept(job, twin))
 }
 
 /// Loads the text of the other job's drawing.
@@ -58,27 +55,31 @@ fn load_text_of(job: &mut Job, other: &Job) -> Result<(), Refusal> {
     job.load(&text[0..length])
 }
 
-/// Whether the job maps to so many cells, with so many lists made, and gate 12 at this level.
-fn maps_to(job: &mut Job, cells: usize, lists: usize, level: u16) -> Result<bool, Refusal> {
-    let mut cover = Cover::new();
-    let mut arrivals = [0; 256];
-    let answer = map_levels(job, &mut cover, &mut arrivals)?;
-    Ok(answer == (cells, lists) && arrivals[12] == level)
+/// How many cells a drawing maps to, and the level of gate 12.
+#[derive(Clone, Copy)]
+struct Size {
+    cells: usize,
+    level: u16,
 }
 
-/// One drawing is loaded over another with the same gate numbers, and back; `cells` and `level` tell of each.
-fn loaded_over(width: u8, first: (usize, u16), second: (usize, u16)) -> Result<bool, Refusal> {
-    let (cells, level) = first;
-    let (other_cells, other_level) = second;
+/// Whether the job maps to this size, with so many lists made.
+fn maps_to(job: &mut Job, size: Size, lists: usize) -> Result<bool, Refusal> {
+    let mut mapped = Mapped::filled(0);
+    let answer = mapped.map_levels(job)?;
+    Ok(answer == (size.cells, lists) && mapped.arrivals[12] == size.level)
+}
+
+/// One drawing, of the size `first`, is loaded over another with the same gate numbers, of the size `second`, and back.
+fn loaded_over(width: u8, first: Size, second: Size) -> Result<bool, Refusal> {
     let mut one = drawn(&FIRST, width)?;
     let mut two = drawn(&SECOND, width)?;
     let mut job = Job::new();
     job.width(width)?;
     load_text_of(&mut job, &one)?;
-    let fresh = maps_to(&mut job, cells, 8, level)? && maps_to(&mut job, cells, 0, level)?;
+    let fresh = maps_to(&mut job, first, 8)? && maps_to(&mut job, first, 0)?;
     load_text_of(&mut job, &two)?;
     let over = !job.is_kept(5) && !job.is_kept(12);
-    let other = maps_to(&mut job, other_cells, 8, other_level)? && agree(&mut job, &mut two)?;
+    let other = maps_to(&mut job, second, 8)? && agree(&mut job, &mut two)?;
     load_text_of(&mut job, &one)?;
     Ok(fresh && over && other && agree(&mut job, &mut one)?)
 }
@@ -86,23 +87,39 @@ fn loaded_over(width: u8, first: (usize, u16), second: (usize, u16)) -> Result<b
 /// The numbers are those of `tools/reference.py`.
 #[test]
 fn drawings_loaded_over_each_other(rt: HostRuntime) -> Result<(), Fail> {
-    assert!(rt; loaded_over(2, (7, 5), (8, 6))?);
-    assert!(rt; loaded_over(3, (3, 2), (4, 2))?);
-    assert!(rt; loaded_over(4, (3, 1), (3, 1))?);
-    assert!(rt; loaded_over(5, (3, 1), (3, 1))?);
+    let cases = [
+        (2, (7, 5), (8, 6)),
+        (3, (3, 2), (4, 2)),
+        (4, (3, 1), (3, 1)),
+        (5, (3, 1), (3, 1)),
+    ];
+    for (width, first, second) in cases {
+        let [first, second] = [first, second].map(|(cells, level)| Size { cells, level });
+        assert!(rt; loaded_over(width, first, second)?, "width {width}");
+    }
     Ok(())
 }
 
-/// Ties the gates of the first drawing as in the second, one after another, and holds the job after each step to one
-/// just made.
-fn tied_over(width: u8, rising: bool) -> Result<bool, Refusal> {
+/// Ties the gates of the first drawing as in the second, in the order of the steps, and holds the job after each step to
+/// one just made. A step is a gate's place in the drawings, and its fanins in the second.
+fn tied_over<'a, I: Iterator<Item = (usize, &'a (u16, u16))>>(
+    width: u8,
+    steps: I,
+) -> Result<bool, Refusal>
+    requires can { I.can_next steps }
+    requires ends { IsFinite (I.remaining steps) }
+{
     let mut gates = FIRST;
     let mut job = drawn(&gates, width)?;
-    for step in 0..8usize {
-        let i = if rising { step } else { 7 - step };
-        let (left, right) = SECOND[i];
-        gates[i] = (left, right);
-        job.retie((i + 5) as u8, Pair { left, right })?;
+    for (place, fanins) in steps {
+        let Some(tied) = gates.get_mut(place) else {
+            return Ok(false);
+        };
+        *tied = *fanins;
+        let Ok(before) = u8::try_from(place) else {
+            return Ok(false);
+        };
+        job.retie(before.saturating_add(5), pair(*fanins))?;
         let mut twin = drawn(&gates, width)?;
         if !agree(&mut job, &mut twin)? {
             return Ok(false);
@@ -114,8 +131,14 @@ fn tied_over(width: u8, rising: bool) -> Result<bool, Refusal> {
 #[test]
 fn gates_tied_one_after_another(rt: HostRuntime) -> Result<(), Fail> {
     for width in 2..=5u8 {
-        assert!(rt; tied_over(width, true)?);
-        assert!(rt; tied_over(width, false)?);
+        assert!(rt;
+            tied_over(width, SECOND.iter().enumerate())?,
+            "width {width}"
+        );
+        assert!(rt;
+            tied_over(width, SECOND.iter().enumerate().rev())?,
+            "width {width}"
+        );
     }
     Ok(())
 }
@@ -127,7 +150,7 @@ fn widths_there_and_back(rt: HostRuntime) -> Result<(), Fail> {
     for width in [3, 5, 2, 4, 4, 2, 5u8] {
         job.width(width)?;
         let mut twin = drawn(&FIRST, width)?;
-        assert!(rt; agree(&mut job, &mut twin)?);
+        assert!(rt; agree(&mut job, &mut twin)?, "width {width}");
     }
     Ok(())
 }
@@ -140,16 +163,14 @@ fn at(rank: u16, tag: u16) -> Rank {
 #[test]
 fn a_family_of_ones_own(rt: HostRuntime) -> Result<(), Fail> {
     let mut job = made(5, &[(2, 4), (6, 8), (14, 10), (12, 16)], &[18], 3)?;
-    let family = Ranks::new(3)?;
-    let mut cover = Cover::new();
-    let mut arrivals = [at(9, 9); 256];
-    assert!(rt; job.map(&family, &mut cover, &mut arrivals)? == (3, 4));
-    assert!(rt; arrivals[5] == at(0, 0) && arrivals[6] == at(1, 2) && arrivals[7] == at(1, 2));
-    assert!(rt; arrivals[8] == at(1, 3) && arrivals[9] == at(2, 14) && arrivals[10] == at(9, 9));
+    let mut mapped = Mapped::filled(at(9, 9));
+    assert_eq!(rt; mapped.map(&mut job, &Ranks::new(3)?)?, (3, 4));
+    let first = [at(0, 0), at(1, 2), at(1, 2), at(1, 3), at(2, 14), at(9, 9)];
+    assert_eq!(rt; &mapped.arrivals[5..11], first.as_slice());
     // neither of {4, 5} and {1, 5} is earlier, so the smaller leaf decides
     let mut next = made(3, &[(2, 2), (4, 6), (8, 10)], &[12], 2)?;
-    let narrow = Ranks::new(2)?;
-    assert!(rt; next.map(&narrow, &mut cover, &mut arrivals)? == (2, 3));
-    assert!(rt; arrivals[4] == at(1, 1) && arrivals[5] == at(1, 2) && arrivals[6] == at(2, 14));
+    assert_eq!(rt; mapped.map(&mut next, &Ranks::new(2)?)?, (2, 3));
+    let second = [at(1, 1), at(1, 2), at(2, 14)];
+    assert_eq!(rt; &mapped.arrivals[4..7], second.as_slice());
     Ok(())
 }
