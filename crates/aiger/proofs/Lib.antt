@@ -5,5 +5,5 @@ pub mod Written
 pub mod Faults
 pub mod Beginnings
 pub mod Examples
-pub mod Pages
 pub mod Reading
+pub mod Writes

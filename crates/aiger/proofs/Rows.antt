@@ -1,6 +1,6 @@
 -- The lines of a list of nodes after one node is set, and how many there are.
 use Rattle.std.proofs.Common.{◌≡◌, ℕ, zero, suc, ◌+◌, ◌<◌, ◌≤◌, true, false, ◌&&◌, eqb, ltb, List, [], ◌∷◌, ◌++◌, length, get_or, take, set, sym, refl, ap, ◌∙◌, subst, ⊎_elim, append_assoc, append-nil, arith}
-use Rattle.std.proofs.lemmas.List.{length-append, get_or-set_same, get_or-set_other, take_more, length-take-le}
+use Rattle.std.proofs.lemmas.List.{get_or-set_same, get_or-set_other, take_more, length-take-le}
 use Rattle.std.proofs.lemmas.Bool.{cases_eq, and_parts, and_from, ltb-true, lt-ltb, ne_eqb, both_ways}
 use Rattle.drawing.specs.declared.node.Node.{Node}
 use Rattle.drawing.specs.declared.node.Node.TheVariants.{Constant, Input, Gate}
@@ -95,7 +95,3 @@ rows_push f n (y ∷ ys) x m e =
 pub rows_more : (f : ℕ → Node → List (List ℕ)) (ns : List Node) (k : ℕ) (d : Node) → k < length ns → rows f 0 (take (k + 1) ns) ≡ rows f 0 (take k ns) ++ f k (get_or ns k d)
 rows_more f ns k d lt =
     ap (rows f 0) (take_more ns k d lt) ∙ rows_push f 0 (take k ns) (get_or ns k d) k (omega (arith, length-take-le k ns (omega arith)))
-
-pub count_more : (f : ℕ → Node → List (List ℕ)) (ns : List Node) (k : ℕ) (d : Node) (m c : ℕ) → k < length ns → m ≡ length (rows f 0 (take k ns)) → c ≡ length (f k (get_or ns k d)) → m + c ≡ length (rows f 0 (take (k + 1) ns))
-count_more f ns k d m c lt e g =
-    omega (arith, ap length (rows_more f ns k d lt), length-append (rows f 0 (take k ns)) (f k (get_or ns k d)))

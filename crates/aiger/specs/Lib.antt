@@ -2,4 +2,4 @@ pub mod Text
 pub mod Reads
 pub mod Laws
 pub mod States
-pub mod Pages
+pub mod Writes

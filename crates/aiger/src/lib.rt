@@ -15,7 +15,6 @@
 mod draft;
 mod header;
 mod line;
-mod page;
 mod part;
 mod reader;
 mod text;

@@ -1,99 +1,130 @@
 //! The writer of a drawing's text.
 
-ghost use Rattle.std.specs.Prelude.{◌≡◌, ℕ, ◌<◌, ◌≤◌, ◌++◌, length};
-ghost use Rattle.aiger.specs.Pages.{Adds, Copied, ShortGates, ShortNumbers};
-ghost use Rattle.aiger.specs.Text.{gate_row, heading, input_row, line_of, output_rows, rows, text, word as aag};
-ghost use Rattle.drawing.specs.Drawing.{drawing, most_nodes, most_outputs};
-ghost use Rattle.drawing.specs.Tables.{drawing_of};
+ghost use Rattle.std.specs.Prelude.{◌≡◌, ℕ, ◌^◌, ◌<◌, List, ◌++◌};
 ghost use Rattle.std.specs.List.{flat_map};
+ghost use Rattle.aiger.specs.Writes.{Copied};
+ghost use Rattle.aiger.specs.Text.{gate_row, heading, input_row, line_of, output_rows, rows, text, word as aag};
+ghost use Rattle.drawing.specs.Drawing.{drawing};
+ghost use Rattle.drawing.specs.Tables.{drawing_of};
+ghost use Rattle.drawing.specs.declared.node.Node.{Node as NodeOf};
+ghost use Rattle.pen.specs.Wrote.{Wrote};
 
-use crate::page::Page;
 use drawing::node::Node;
 use drawing::refusal::Refusal;
 use drawing::table::Table;
+use pen::Pen;
+
+/// A kind of nodes that have a line each.
+trait Row {
+    ghost lines: { ℕ → NodeOf → List (List ℕ) };
+
+    /// The line of node `k`, if it is of this kind.
+    fn put(pen: &mut Pen<'_>, k: usize, node: Node)
+        requires { k < 2 ^ 63 }
+        ensures { Wrote pen.old (flat_map line_of (Self.lines k node)) pen.new };
+}
+
+/// An input's line is its literal.
+struct Inputs;
+
+impl Row for Inputs {
+    ghost lines = { input_row };
+
+    fn put(pen: &mut Pen<'_>, k: usize, node: Node) {
+        if let Node::Input = node {
+            put_line(pen, &[2 * k]);
+        }
+    }
+}
+
+/// A gate's line is its literal and its two fanin literals.
+struct Gates;
+
+impl Row for Gates {
+    ghost lines = { gate_row };
+
+    fn put(pen: &mut Pen<'_>, k: usize, node: Node) {
+        if let Node::Gate(pair) = node {
+            put_line(
+                pen,
+                &[2 * k, usize::from(pair.left), usize::from(pair.right)],
+            );
+        }
+    }
+}
+
+/// A line of numbers: one space between two, and the line's end.
+fn put_line(pen: &mut Pen<'_>, numbers: &[usize])
+    ensures { Wrote pen.old (line_of numbers.now) pen.new }
+{
+    match numbers {
+        [] => {}
+        [last] => {
+            pen.number(*last);
+            pen.byte(b'\n');
+        }
+        [first, rest @ ..] => {
+            pen.number(*first);
+            pen.byte(b' ');
+            put_line(pen, rest);
+        }
+    }
+}
+
+/// The lines of the nodes of one kind.
+fn put_rows<R: Row>(pen: &mut Pen<'_>, nodes: &[Node])
+    ensures { Wrote pen.old (flat_map line_of (rows R.lines 0 nodes.now)) pen.new }
+{
+    for (k, node) in nodes.iter().enumerate() {
+        R::put(pen, k, *node);
+    }
+}
+
+/// The lines of the outputs.
+fn put_outputs(pen: &mut Pen<'_>, outputs: &[u16])
+    ensures { Wrote pen.old (flat_map line_of (output_rows outputs.now)) pen.new }
+{
+    for literal in outputs {
+        put_line(pen, &[usize::from(*literal)]);
+    }
+}
+
+/// The header.
+fn put_header(pen: &mut Pen<'_>, nodes: &[Node], outputs: &[u16])
+    ensures { Wrote pen.old (aag ++ line_of (heading (drawing nodes.now outputs.now))) pen.new }
+{
+    let last = nodes.len().saturating_sub(1);
+    let inputs = nodes.iter().filter(|node| node.is_input()).count();
+    let gates = nodes.iter().filter(|node| node.is_gate()).count();
+    pen.text(b"aag ");
+    put_line(pen, &[last, inputs, 0, outputs.len(), gates]);
+}
+
+/// The text of the drawing.
+fn put_drawing(pen: &mut Pen<'_>, table: &Table)
+    ensures { Wrote pen.old (text (drawing_of table.now)) pen.new }
+{
+    let nodes = table.nodes();
+    let outputs = table.outputs();
+    put_header(pen, nodes, outputs);
+    put_rows::<Inputs>(pen, nodes);
+    put_outputs(pen, outputs);
+    put_rows::<Gates>(pen, nodes);
+}
 
 /// Writes the text of the drawing to the front of the buffer, and answers the text's length. Where the buffer is
 /// shorter than the text it refuses and leaves the buffer alone.
 pub fn write(table: &Table, buffer: &mut [u8]) -> Result<usize, Refusal>
     ensures { Copied (text (drawing_of table.now)) buffer.old result buffer.new }
 {
-    let nodes = table.nodes();
-    let outputs = table.outputs();
-    let mut page = Page::new();
-    put_header(&mut page, nodes, outputs);
-    put_inputs(&mut page, nodes);
-    put_outputs(&mut page, outputs);
-    put_gates(&mut page, nodes);
-    page.copy_to(buffer)
-}
-
-/// The header.
-fn put_header(page: &mut Page, nodes: &[Node], outputs: &[u16])
-    requires { (page.old.len ≡ 0) × ((0 < length nodes.now) × ((length nodes.now ≤ most_nodes) × (length outputs.now ≤ most_outputs))) }
-    ensures { Adds page.old (aag ++ line_of (heading (drawing nodes.now outputs.now))) 24 page.new }
-{
-    let (inputs, gates) = tally(nodes);
-    page.word();
-    page.number((nodes.len() - 1) as u16, b' ');
-    page.number(inputs as u16, b' ');
-    page.number(0, b' ');
-    page.number(outputs.len() as u16, b' ');
-    page.number(gates as u16, b'\n');
-}
-
-/// The lines of the inputs.
-fn put_inputs(page: &mut Page, nodes: &[Node])
-    requires { (page.old.len ≤ 24) × (length nodes.now ≤ most_nodes) }
-    ensures { Adds page.old (flat_map line_of (rows input_row 0 nodes.now)) 1024 page.new }
-{
-    for (k, node) in nodes.iter().enumerate() {
-        page.input(k, *node);
+    let mut nowhere: [u8; 0] = [];
+    let mut count = Pen::new(&mut nowhere);
+    put_drawing(&mut count, table);
+    let length = count.at;
+    if buffer.len() < length {
+        return Err(Refusal::TooShort);
     }
-}
-
-/// The lines of the outputs.
-fn put_outputs(page: &mut Page, outputs: &[u16])
-    requires { (page.old.len ≤ 1048) × ((length outputs.now ≤ most_outputs) × (ShortNumbers outputs.now)) }
-    ensures { Adds page.old (flat_map line_of (output_rows outputs.now)) 256 page.new }
-{
-    for literal in outputs {
-        page.number(*literal, b'\n');
-    }
-}
-
-/// The lines of the gates.
-fn put_gates(page: &mut Page, nodes: &[Node])
-    requires { (page.old.len ≤ 1304) × ((length nodes.now ≤ most_nodes) × (ShortGates nodes.now)) }
-    ensures { Adds page.old (flat_map line_of (rows gate_row 0 nodes.now)) 3072 page.new }
-{
-    for (k, node) in nodes.iter().enumerate() {
-        page.gate(k, *node);
-    }
-}
-
-/// How many inputs and gates there are.
-fn tally(nodes: &[Node]) -> (usize, usize)
-    ensures counts { (result.0 ≡ length (rows input_row 0 nodes.now)) × (result.1 ≡ length (rows gate_row 0 nodes.now)) }
-    ensures within { (result.0 ≤ length nodes.now) × (result.1 ≤ length nodes.now) }
-{
-    let mut inputs = 0;
-    let mut gates = 0;
-    for node in nodes {
-        let (input, gate) = counts(*node);
-        inputs += input;
-        gates += gate;
-    }
-    (inputs, gates)
-}
-
-/// One for an input, and one for a gate.
-fn counts(node: Node) -> (usize, usize)
-    ensures counts { (k : ℕ) → (result.0 ≡ length (input_row k node)) × (result.1 ≡ length (gate_row k node)) }
-    ensures within { (result.0 ≤ 1) × (result.1 ≤ 1) }
-{
-    match node {
-        Node::Constant => (0, 0),
-        Node::Input => (1, 0),
-        Node::Gate(_) => (0, 1),
-    }
+    let mut pen = Pen::new(buffer);
+    put_drawing(&mut pen, table);
+    Ok(length)
 }

@@ -47,9 +47,16 @@ over_fits xs (y ∷ ys) (b ∷ bs) p e h k =
     ∙ over_fits (xs ++ b ∷ []) ys bs (next_place p) (length-append xs (b ∷ []) ∙ (omega arith)) (omega arith) (omega arith)
     ∙ ap (λ zs. zs ++ drop (length bs) ys) (append_assoc xs (b ∷ []) bs)
 
--- from the buffer's start: how many bytes there are
-pub wrote_count : {o p : Pen} {bs : List ℕ} → Wrote o bs p → o.at ≡ 0 → p.at ≡ min (length bs) (2 ^ 64 - 1)
+wrote_count : {o p : Pen} {bs : List ℕ} → Wrote o bs p → o.at ≡ 0 → p.at ≡ min (length bs) (2 ^ 64 - 1)
 wrote_count {o} {p} {bs} w e = ap (λ x. x.1) w.laid ∙ over_count o.out.now o.at bs (omega arith) ∙ (omega (arith, e))
+
+-- from the buffer's start: a count above n says that there are more than n bytes
+pub wrote_more : {o p : Pen} {bs : List ℕ} (n : ℕ) → Wrote o bs p → o.at ≡ 0 → n < p.at → n < length bs
+wrote_more n w e h = let count = wrote_count w e in omega arith
+
+-- a count that a buffer can have says how many there are
+pub wrote_within : {o p : Pen} {bs : List ℕ} (n : ℕ) → Wrote o bs p → o.at ≡ 0 → p.at ≤ n → n < 2 ^ 63 → p.at ≡ length bs
+wrote_within n w e h k = let count = wrote_count w e in omega arith
 
 -- and what the buffer holds, where they fit
 pub wrote_all : {o p : Pen} {bs out : List ℕ} → Wrote o bs p → o.at ≡ 0 → o.out.now ≡ out → length bs ≤ length out → length out < 2 ^ 64 → p.out.now ≡ bs ++ drop (length bs) out
