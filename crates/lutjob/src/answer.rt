@@ -4,7 +4,7 @@ use drawing::refusal::Refusal;
 use std::fmt;
 
 /// The answer to a command.
-#[derive(Clone, Copy)]
+#[derive(Clone, Copy, Debug, PartialEq)]
 pub enum Answer {
     /// Done.
     Done,
@@ -15,45 +15,56 @@ pub enum Answer {
     Refused(Refusal),
     /// There is no accepted map to tell of.
     Nothing,
+    /// The list of the gate is not kept.
+    NotKept,
     /// The line is no command.
     Unknown,
 }
 
-impl Answer {
-    pub fn done(answer: Result<(), Refusal>) -> Answer {
-        match answer {
-            Ok(()) => Answer::Done,
-            Err(refusal) => Answer::Refused(refusal),
-        }
+impl From<()> for Answer {
+    fn from(_done: ()) -> Answer {
+        Answer::Done
     }
+}
 
-    pub fn added(answer: Result<u8, Refusal>) -> Answer {
-        match answer {
-            Ok(number) => Answer::Added(number),
-            Err(refusal) => Answer::Refused(refusal),
-        }
+impl From<u8> for Answer {
+    fn from(number: u8) -> Answer {
+        Answer::Added(number)
     }
+}
 
-    pub fn counted(answer: Result<(usize, usize), Refusal>) -> Answer {
-        match answer {
-            Ok((first, second)) => Answer::Counted(first, second),
+impl From<(usize, usize)> for Answer {
+    fn from((first, second): (usize, usize)) -> Answer {
+        Answer::Counted(first, second)
+    }
+}
+
+impl<T: Into<Answer>> From<Result<T, Refusal>> for Answer {
+    fn from(outcome: Result<T, Refusal>) -> Answer {
+        match outcome {
+            Ok(value) => value.into(),
             Err(refusal) => Answer::Refused(refusal),
         }
     }
 }
 
 /// A refusal with its number and, where it has one, its place.
-fn show_refusal<W: fmt::Write>(refusal: Refusal, f: &mut fmt::Formatter<W>) -> fmt::Result {
-    let number = refusal.number();
-    match refusal {
-        Refusal::Text(fault) => {
-            let byte = fault.byte;
-            let line = fault.line;
-            write!(f, "refused {number} at {byte} line {line}")
+#[derive(Clone, Copy)]
+struct Shown(Refusal);
+
+impl fmt::Display for Shown {
+    fn fmt<W: fmt::Write>(&self, f: &mut fmt::Formatter<W>) -> fmt::Result {
+        let number = self.0.number();
+        match self.0 {
+            Refusal::Text(fault) => {
+                let byte = fault.byte;
+                let line = fault.line;
+                write!(f, "refused {number} at {byte} line {line}")
+            }
+            Refusal::Crowded(gate) => write!(f, "refused {number} at {gate}"),
+            Refusal::BadBit(index) => write!(f, "refused {number} at {index}"),
+            _ => write!(f, "refused {number}"),
         }
-        Refusal::Crowded(gate) => write!(f, "refused {number} at {gate}"),
-        Refusal::BadBit(index) => write!(f, "refused {number} at {index}"),
-        _ => write!(f, "refused {number}"),
     }
 }
 
@@ -63,8 +74,9 @@ impl fmt::Display for Answer {
             Answer::Done => write!(f, "ok"),
             Answer::Added(number) => write!(f, "ok {number}"),
             Answer::Counted(first, second) => write!(f, "ok {first} {second}"),
-            Answer::Refused(refusal) => show_refusal(refusal, f),
+            Answer::Refused(refusal) => write!(f, "{}", Shown(refusal)),
             Answer::Nothing => write!(f, "nothing"),
+            Answer::NotKept => write!(f, "none"),
             Answer::Unknown => write!(f, "unknown"),
         }
     }

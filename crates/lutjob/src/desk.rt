@@ -1,67 +1,70 @@
 //! The job of a script, and what its last accepted map gave.
 
 use crate::answer::Answer;
-use crate::listing::{
-    write_drawing, write_kept, write_levels, write_list, write_pins, write_sections, write_values,
-};
-use crate::reading::read_text;
+use crate::console::Console;
+use crate::kept::{write_kept, write_list};
+use crate::mapped::{Arrivals, Mapped};
+use aiger::write;
 use cells::cover::Cover;
 use drawing::refusal::Refusal;
-use drawing::table::calls::MOST_NODES;
 use family::Family;
 use family::levels::Levels;
 use family::pins::Pins;
 use fitter::job::Job;
 use script::command::{Command, Kind};
-use std::alloc::Global;
+use script::parse::parse;
+use std::alloc::{AllocError, Global};
 use std::io;
 use std::io::{BufRead, Write};
 
-/// Which table the last accepted map filled, and for how many nodes.
-#[derive(Clone, Copy)]
-enum Last {
-    Nothing,
-    Levels(usize),
-    Pins(usize),
-}
+/// No text of a drawing is longer.
+const MOST_TEXT: usize = 4376;
 
-/// A job, with the cover and the arrivals of its last accepted map.
+/// A job, and what its last accepted map gave.
 #[derive(Drop)]
 pub struct Desk {
     job: Job,
-    cover: Cover,
-    levels: [u16; MOST_NODES],
-    pins: [(u16, u16); MOST_NODES],
-    last: Last,
+    last: Option<Mapped>,
 }
 
 impl Desk {
     pub fn new() -> Desk {
         Desk {
             job: Job::new(),
-            cover: Cover::new(),
-            levels: [0; MOST_NODES],
-            pins: [(0, 0); MOST_NODES],
-            last: Last::Nothing,
+            last: None,
         }
     }
 
-    /// Maps by a family. A refusal leaves what the last accepted map gave.
-    fn map(&mut self, kind: Kind, width: u8) -> Result<(usize, usize), Refusal> {
+    /// Maps by a family that may be refused, and keeps what an accepted map gives. A refusal leaves what the last
+    /// accepted map gave.
+    fn map_by<F: Family + Drop, K: FnOnce(Vec<F::Arrival>) -> Arrivals>(
+        &mut self,
+        family: Result<F, Refusal>,
+        keep: K,
+        heap: Global,
+    ) -> Result<Answer, AllocError>
+        requires { K.IsAlwaysCallable keep }
+    {
+        let family = match family {
+            Ok(family) => family,
+            Err(refusal) => return Ok(Answer::Refused(refusal)),
+        };
         let nodes = self.job.table().nodes().len();
+        let mut cover = Cover::new();
+        let mut arrivals = vec![in heap; family.start(); nodes]?;
+        let answer = self.job.map(&family, &mut cover, arrivals.as_mut_slice());
+        if answer.is_ok() {
+            let arrivals = keep(arrivals);
+            self.last = Some(Mapped { cover, arrivals });
+        }
+        Ok(answer.into())
+    }
+
+    /// Maps by the family of this name.
+    fn map(&mut self, kind: Kind, width: u8, heap: Global) -> Result<Answer, AllocError> {
         match kind {
-            Kind::Levels => {
-                let family = Levels::new(width)?;
-                let answer = self.job.map(&family, &mut self.cover, &mut self.levels)?;
-                self.last = Last::Levels(nodes);
-                Ok(answer)
-            }
-            Kind::Pins => {
-                let family = Pins::new(width)?;
-                let answer = self.job.map(&family, &mut self.cover, &mut self.pins)?;
-                self.last = Last::Pins(nodes);
-                Ok(answer)
-            }
+            Kind::Levels => self.map_by(Levels::new(width), Arrivals::Levels, heap),
+            Kind::Pins => self.map_by(Pins::new(width), Arrivals::Pins, heap),
         }
     }
 
@@ -72,71 +75,74 @@ impl Desk {
         Ok((table.nodes().len(), table.outputs().len()))
     }
 
-    /// Reads a text of `size` bytes from the script and loads it.
-    fn take_text<R: BufRead>(
-        &mut self,
-        size: usize,
-        script: &mut R,
-        heap: Global,
-    ) -> io::Result<Answer> {
-        let mut text = vec![in heap; 0; size]?;
-        if !read_text(script, text.as_mut_slice(), heap)? {
-            return Ok(Answer::Unknown);
-        }
-        Ok(Answer::counted(self.load(text.as_slice())))
+    /// Writes the text of the drawing.
+    fn write_drawing<R: BufRead + Drop, W: Write + Drop>(
+        &self,
+        console: &mut Console<R, W>,
+    ) -> io::Result<()> {
+        let mut text = [0; MOST_TEXT];
+        let written = write(self.job.table(), &mut text);
+        console.write_text(written, &text)
     }
 
-    /// Writes the arrivals of the last accepted map.
-    fn write_arrivals<W: Write>(&self, out: &mut W) -> io::Result<()> {
-        match self.last {
-            Last::Nothing => out.writeln(Answer::Nothing),
-            Last::Levels(nodes) => write_levels(out, &self.levels, nodes),
-            Last::Pins(nodes) => write_pins(out, &self.pins, nodes),
-        }
-    }
-
-    /// Writes the cell list of the last accepted map's cover.
-    fn write_cover<W: Write>(&self, out: &mut W) -> io::Result<()> {
-        match self.last {
-            Last::Nothing => out.writeln(Answer::Nothing),
-            Last::Levels(_) | Last::Pins(_) => write_sections(out, &self.cover),
-        }
-    }
-
-    /// Writes what the last accepted map's cover answers to a row of digits.
-    fn write_values<W: Write>(&self, digits: &[u8], out: &mut W, heap: Global) -> io::Result<()> {
-        match self.last {
-            Last::Nothing => out.writeln(Answer::Nothing),
-            Last::Levels(_) | Last::Pins(_) => write_values(out, &self.cover, digits, heap),
+    /// Writes what the last accepted map gave, by this function.
+    fn tell<R, W, T>(&self, console: &mut Console<R, W>, tell: T) -> io::Result<()>
+    where
+        R: BufRead + Drop,
+        W: Write + Drop,
+        T: FnOnce(&Mapped, &mut Console<R, W>) -> io::Result<()>,
+        requires { T.IsAlwaysCallable tell }
+    {
+        match &self.last {
+            Some(mapped) => tell(mapped, console),
+            None => console.write_line(Answer::Nothing),
         }
     }
 
     /// Does what a command asks, and writes the answer.
-    pub fn obey<R: BufRead, W: Write>(
+    fn obey<R: BufRead + Drop, W: Write + Drop>(
         &mut self,
         command: Command,
-        script: &mut R,
-        out: &mut W,
-        heap: Global,
+        console: &mut Console<R, W>,
     ) -> io::Result<()> {
         match command {
-            Command::Input => out.writeln(Answer::added(self.job.input())),
-            Command::Gate(pair) => out.writeln(Answer::added(self.job.gate(pair))),
-            Command::Output(literal) => out.writeln(Answer::added(self.job.output(literal))),
-            Command::Retie(gate, pair) => out.writeln(Answer::done(self.job.retie(gate, pair))),
-            Command::Width(width) => out.writeln(Answer::done(self.job.width(width))),
-            Command::Load(size) => {
-                let answer = self.take_text(size, script, heap)?;
-                out.writeln(answer)
+            Command::Input => console.answer(self.job.input()),
+            Command::Gate(pair) => console.answer(self.job.gate(pair)),
+            Command::Output(literal) => console.answer(self.job.output(literal)),
+            Command::Retie(gate, pair) => console.answer(self.job.retie(gate, pair)),
+            Command::Width(width) => console.answer(self.job.width(width)),
+            Command::Load(size) => match console.next_text(size)? {
+                Some(text) => console.answer(self.load(text.as_slice())),
+                None => console.write_line(Answer::Unknown),
+            },
+            Command::Map(kind, width) => {
+                let answer = self.map(kind, width, console.heap())?;
+                console.write_line(answer)
             }
-            Command::Map(kind, width) => out.writeln(Answer::counted(self.map(kind, width))),
-            Command::Arrivals => self.write_arrivals(out),
-            Command::Cover => self.write_cover(out),
-            Command::Evaluate(digits) => self.write_values(digits, out, heap),
-            Command::Write => write_drawing(out, self.job.table()),
-            Command::Kept => write_kept(out, &self.job),
-            Command::List(gate) => write_list(out, self.job.list(gate), heap),
+            Command::Arrivals => self.tell(console, |map, console| map.write_arrivals(console)),
+            Command::Cover => self.tell(console, |map, console| map.write_cover(console)),
+            Command::Evaluate(digits) => {
+                self.tell(console, |map, console| map.write_values(digits, console))
+            }
+            Command::Write => self.write_drawing(console),
+            Command::Kept => write_kept(&self.job, console),
+            Command::List(gate) => match self.job.list(gate) {
+                Some(list) => write_list(list, console),
+                None => console.write_line(Answer::NotKept),
+            },
             Command::Comment(_) => Ok(()),
+        }
+    }
+
+    /// Answers a line. The text that a `load` announces is read from the script too.
+    pub fn handle<R: BufRead + Drop, W: Write + Drop>(
+        &mut self,
+        line: &[u8],
+        console: &mut Console<R, W>,
+    ) -> io::Result<()> {
+        match parse(line) {
+            Some(command) => self.obey(command, console),
+            None => console.write_line(Answer::Unknown),
         }
     }
 }

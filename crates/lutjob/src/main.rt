@@ -2,45 +2,30 @@
 #![tactic(auto)]
 
 mod answer;
+mod console;
 mod desk;
-mod listing;
-mod reading;
+mod joined;
+mod kept;
+mod mapped;
 
-use answer::Answer;
+use console::Console;
 use desk::Desk;
-use reading::next_line;
-use script::parse::parse;
-use std::alloc::Global;
 use std::io;
-use std::io::{BufRead, BufReader, BufWriter, Write};
-
-/// Answers a line. What a `load` announces is read from the script too.
-fn handle<R: BufRead, W: Write>(
-    desk: &mut Desk,
-    line: &[u8],
-    script: &mut R,
-    out: &mut W,
-    heap: Global,
-) -> io::Result<()> {
-    match parse(line) {
-        Some(command) => desk.obey(command, script, out, heap),
-        None => out.writeln(Answer::Unknown),
-    }
-}
+use std::io::{BufReader, BufWriter};
 
 /// Reads the script to its end, and answers each line before it reads the next.
 fn run(rt: &HostRuntime) -> io::Result<()> {
-    let mut script = BufReader::new(rt.alloc(), rt.stdin())?;
-    let mut out = BufWriter::new(rt.alloc(), rt.stdout())?;
+    let script = BufReader::new(rt.alloc(), rt.stdin())?;
+    let out = BufWriter::new(rt.alloc(), rt.stdout())?;
+    let mut console = Console::new(script, out, rt.alloc());
     let mut desk = Desk::new();
-    let heap = rt.alloc();
-    let mut line = Vec::new(heap);
+    // input has no known end, and a loop needs one: no script has as many lines
     for _ in 0..u64::MAX {
-        if !next_line(&mut script, &mut line)? {
+        let Some(line) = console.next_line()? else {
             break;
-        }
-        handle(&mut desk, line.as_slice(), &mut script, &mut out, heap)?;
-        out.flush()?;
+        };
+        desk.handle(line.as_slice(), &mut console)?;
+        console.flush()?;
     }
     Ok(())
 }
