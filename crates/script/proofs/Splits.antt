@@ -44,10 +44,6 @@ pub no_only : (text w a : List ℕ) (rest : Option (Bor (List ℕ))) → is_word
 no_only text w a None p e q n h = n (h ∙ sym e)
 no_only text w a (Some t) p e q n h = not_a_word w t.now (ap is_word (e ∙ sym h) ∙ q)
 
--- what is one word has no field behind it
-pub no_rest : (text w a s : List ℕ) → is_word w ≡ true → w ≡ text → then a s ≡ text → ⊥
-no_rest text w a s p e h = not_a_word a s (ap is_word (h ∙ sym e) ∙ p)
-
 -- nothing else stands behind the word
 pub no_second : (text w t a s : List ℕ) → is_word w ≡ true → then w t ≡ text → is_word a ≡ true → (s ≡ t → ⊥) → then a s ≡ text → ⊥
 no_second text w t a s p e q n h = n (one_cut a w s t q p (h ∙ sym e)).1

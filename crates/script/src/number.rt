@@ -1,6 +1,6 @@
 //! Numbers of a line: decimal digits, of which only 0 itself begins with 0.
 
-ghost use Rattle.std.specs.Prelude.{◌≡◌, ◌<◌, ◌≤◌, length, decimal, slice_index};
+ghost use Rattle.std.specs.Prelude.{◌≡◌, ◌<◌, length, decimal, slice_index};
 ghost use Rattle.script.specs.Fields.{IsSize};
 ghost use Rattle.script.specs.Reads.{Reads};
 
