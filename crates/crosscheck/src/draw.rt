@@ -4,6 +4,32 @@ use crate::random::Random;
 use drawing::node::Pair;
 use drawing::refusal::Refusal;
 use fitter::job::Job;
+use std::alloc::{AllocError, AllocFailed, Global};
+
+/// Why there is no drawing.
+#[derive(Debug, Drop)]
+pub enum NoDrawing {
+    Refused(Refusal),
+    OutOfMemory(AllocError),
+}
+
+impl From<Refusal> for NoDrawing {
+    fn from(refusal: Refusal) -> NoDrawing {
+        NoDrawing::Refused(refusal)
+    }
+}
+
+impl From<AllocError> for NoDrawing {
+    fn from(failure: AllocError) -> NoDrawing {
+        NoDrawing::OutOfMemory(failure)
+    }
+}
+
+impl<T: Drop> From<AllocFailed<T>> for NoDrawing {
+    fn from(failure: AllocFailed<T>) -> NoDrawing {
+        NoDrawing::OutOfMemory(AllocError::from(failure))
+    }
+}
 
 /// A node as a literal, inverted now and then.
 fn turned(random: &mut Random, node: u16) -> u16 {
@@ -57,64 +83,62 @@ fn woven(random: &mut Random) -> Result<Job, Refusal> {
 /// Nodes that no gate has taken, or that stay although one has.
 #[derive(Drop)]
 struct Pool {
-    nodes: [u16; 256],
-    count: u16,
+    nodes: Vec<u16>,
 }
 
 impl Pool {
-    fn put(&mut self, node: u16) {
-        if self.count < 256 {
-            self.nodes[self.count as usize] = node;
-            self.count += 1;
+    /// A literal of one of the nodes, if there is one; the node stays where `keep` says so.
+    fn take(&mut self, random: &mut Random, keep: u16) -> Option<u16> {
+        let count = u16::try_from(self.nodes.len()).ok()?;
+        let place = random.below(count) as usize;
+        let node = *self.nodes.get(place)?;
+        if random.below(keep) != 1 {
+            let _ = self.nodes.swap_remove(place);
         }
+        Some(turned(random, node))
     }
 
-    /// One of the nodes, which stays where `keep` says so; node 0 where there is none.
-    fn take(&mut self, random: &mut Random, keep: u16) -> u16 {
-        let place = (random.below(self.count) & 255) as usize;
-        let node = self.nodes[place];
-        if self.count == 0 {
-            return 0;
+    /// The fanins of a gate, if there are two nodes for them.
+    fn take_pair(&mut self, random: &mut Random, keep: u16) -> Option<Pair> {
+        if self.nodes.len() < 2 {
+            return None;
         }
-        if random.below(keep) != 1 {
-            self.count -= 1;
-            self.nodes[place] = self.nodes[(self.count & 255) as usize];
-        }
-        node
+        let left = self.take(random, keep)?;
+        let right = self.take(random, keep)?;
+        Some(Pair { left, right })
     }
 }
 
 /// A drawing whose gates take mostly nodes that no other gate has: trees that share some nodes.
-fn grown(random: &mut Random) -> Result<Job, Refusal> {
+fn grown(alloc: Global, random: &mut Random) -> Result<Job, NoDrawing> {
     let mut job = Job::new();
     let total = 1 + random.below(255);
     let first = 1 + random.below(90);
     let keep = 3 + random.below(30);
     let mut pool = Pool {
-        nodes: [0; 256],
-        count: 0,
+        nodes: Vec::new(alloc),
     };
     for v in 1..=total {
-        if v <= first || pool.count < 2 {
-            let _ = job.input()?;
+        let fanins = if v <= first {
+            None
         } else {
-            let one = pool.take(random, keep);
-            let left = turned(random, one);
-            let other = pool.take(random, keep);
-            let right = turned(random, other);
-            let _ = job.gate(Pair { left, right })?;
-        }
-        pool.put(v);
+            pool.take_pair(random, keep)
+        };
+        let _ = match fanins {
+            Some(pair) => job.gate(pair)?,
+            None => job.input()?,
+        };
+        pool.nodes.push(v)?;
     }
     add_outputs(&mut job, random, total)?;
     Ok(job)
 }
 
 /// A job with a drawing of up to 255 nodes above node 0.
-pub fn draw(random: &mut Random) -> Result<Job, Refusal> {
+pub fn draw(alloc: Global, random: &mut Random) -> Result<Job, NoDrawing> {
     if random.below(2) == 0 {
-        woven(random)
+        Ok(woven(random)?)
     } else {
-        grown(random)
+        grown(alloc, random)
     }
 }

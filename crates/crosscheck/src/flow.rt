@@ -6,206 +6,206 @@
 //! carries at most one unit.
 
 use crate::plain::Plain;
+use std::alloc::{AllocError, Global};
+use std::collections::VecDeque;
 
 /// A node seen from above or from below, or the top where all paths begin.
-#[derive(Clone, Copy)]
+#[derive(Clone, Copy, PartialEq, Eq)]
 enum Spot {
     Top,
     In(u8),
     Out(u8),
 }
 
-/// Paths without a common node: `used` are the nodes on them, and `above` is the node before, 0 where it is the top.
-#[derive(Drop)]
-struct Flow {
-    used: [bool; 256],
-    above: [u8; 256],
-}
-
-/// A search for one more path: how each spot was reached first, and the spots in the order in which they were.
+/// A search for one more path: from which spot each other one was reached first, and the spots that it goes on from.
 #[derive(Drop)]
 struct Search {
-    seen_in: [bool; 256],
-    seen_out: [bool; 256],
-    from_in: [Spot; 256],
-    from_out: [Spot; 256],
-    queue: [Spot; 512],
-    count: usize,
+    into: [Option<Spot>; 256],
+    out_of: [Option<Spot>; 256],
+    queue: VecDeque<Spot>,
 }
 
 impl Search {
-    fn new() -> Search {
-        Search {
-            seen_in: [false; 256],
-            seen_out: [false; 256],
-            from_in: [Spot::Top; 256],
-            from_out: [Spot::Top; 256],
-            queue: [Spot::Top; 512],
-            count: 0,
+    /// All paths begin at these nodes.
+    fn new(alloc: Global, entries: &[u8]) -> Result<Search, AllocError> {
+        let mut search = Search {
+            into: [None; 256],
+            out_of: [None; 256],
+            queue: VecDeque::with_capacity(alloc, 512)?,
+        };
+        for v in entries {
+            search.reach(Spot::In(*v), Spot::Top)?;
+        }
+        Ok(search)
+    }
+
+    /// From which spot this one was reached first. Nothing leads to the top.
+    fn origin(&self, spot: Spot) -> Option<Spot> {
+        match spot {
+            Spot::Top => None,
+            Spot::In(v) => self.into[v as usize],
+            Spot::Out(v) => self.out_of[v as usize],
         }
     }
 
-    /// Notes that a spot is reached; there are at most 512 spots besides the top.
-    fn note(&mut self, spot: Spot) {
-        if self.count < 512 {
-            self.queue[self.count] = spot;
-            self.count += 1;
+    /// Notes that a spot is reached, unless it is the top or was reached before.
+    fn reach(&mut self, spot: Spot, from: Spot) -> Result<(), AllocError> {
+        if spot == Spot::Top || self.origin(spot).is_some() {
+            return Ok(());
         }
+        match spot {
+            Spot::Top => {}
+            Spot::In(v) => self.into[v as usize] = Some(from),
+            Spot::Out(v) => self.out_of[v as usize] = Some(from),
+        }
+        self.queue.push_back(spot)?;
+        Ok(())
     }
+}
 
-    fn reach_in(&mut self, v: u8, from: Spot) {
-        if v != 0 && !self.seen_in[v as usize] {
-            self.seen_in[v as usize] = true;
-            self.from_in[v as usize] = from;
-            self.note(Spot::In(v));
-        }
-    }
-
-    fn reach_out(&mut self, v: u8, from: Spot) {
-        if v != 0 && !self.seen_out[v as usize] {
-            self.seen_out[v as usize] = true;
-            self.from_out[v as usize] = from;
-            self.note(Spot::Out(v));
-        }
-    }
+/// Paths without a common node: for each node on one, the spot before it, which is the top or a node above it.
+#[derive(Drop)]
+struct Flow {
+    before: [Option<Spot>; 256],
 }
 
 impl Flow {
     fn new() -> Flow {
         Flow {
-            used: [false; 256],
-            above: [0; 256],
+            before: [None; 256],
         }
     }
 
     /// Goes on from a spot. The answer is whether it is a free input, where a path ends.
-    fn step(&self, drawing: &Plain, search: &mut Search, spot: Spot) -> bool {
+    fn step(&self, drawing: &Plain, search: &mut Search, spot: Spot) -> Result<bool, AllocError> {
         match spot {
-            Spot::Top => false,
-            Spot::In(v) => {
-                if self.used[v as usize] {
-                    search.reach_out(self.above[v as usize], spot);
-                    return false;
-                }
-                if drawing.is_input(v) {
-                    return true;
-                }
-                search.reach_out(v, spot);
-                false
-            }
+            Spot::Top => {}
+            Spot::In(v) => match self.before[v as usize] {
+                Some(before) => search.reach(before, spot)?,
+                None if drawing.is_input(v) => return Ok(true),
+                None => search.reach(Spot::Out(v), spot)?,
+            },
             Spot::Out(v) => {
-                let [left, right] = drawing.fanins(v);
-                search.reach_in(left, spot);
-                search.reach_in(right, spot);
-                if self.used[v as usize] {
-                    search.reach_in(v, spot);
+                if let Some(fanins) = drawing.fanins(v) {
+                    for fanin in fanins {
+                        search.reach(Spot::In(fanin), spot)?;
+                    }
                 }
-                false
+                if self.before[v as usize].is_some() {
+                    search.reach(Spot::In(v), spot)?;
+                }
             }
         }
+        Ok(false)
     }
 
     /// Turns the way that led to a spot into flow, from there back to the top.
     fn turn(&mut self, search: &Search, end: Spot) {
         let mut spot = end;
-        for _ in 0..1024u16 {
-            match spot {
-                Spot::Top => return,
-                Spot::In(v) => {
-                    spot = search.from_in[v as usize];
-                    match spot {
-                        Spot::Top => self.above[v as usize] = 0,
-                        Spot::In(_) => {}
-                        Spot::Out(u) => {
-                            if u == v {
-                                self.used[v as usize] = false;
-                            } else {
-                                self.above[v as usize] = u;
-                            }
-                        }
-                    }
-                }
-                Spot::Out(v) => {
-                    spot = search.from_out[v as usize];
-                    if let Spot::In(w) = spot {
-                        if w == v {
-                            self.used[v as usize] = true;
-                        }
-                    }
-                }
+        // a way passes each of the 512 spots besides the top at most once
+        for _ in 0..512u16 {
+            let Some(from) = search.origin(spot) else {
+                return;
+            };
+            if let Spot::In(v) = spot {
+                self.before[v as usize] = (from != Spot::Out(v)).then_some(from);
             }
+            spot = from;
         }
     }
 
     /// Adds a path, if there is one more.
-    fn augment(&mut self, drawing: &Plain, entries: &[bool; 256]) -> bool {
-        let mut search = Search::new();
-        for v in 1..=255u8 {
-            if entries[v as usize] {
-                search.reach_in(v, Spot::Top);
-            }
-        }
-        for head in 0..512usize {
-            if head >= search.count {
-                return false;
-            }
-            let spot = search.queue[head];
-            if self.step(drawing, &mut search, spot) {
-                if let Spot::In(v) = spot {
-                    self.used[v as usize] = true;
-                }
+    fn augment(&mut self, drawing: &Plain, mut search: Search) -> Result<bool, AllocError> {
+        // each of the 512 spots besides the top is queued at most once
+        for _ in 0..512u16 {
+            let Some(spot) = search.queue.pop_front() else {
+                return Ok(false);
+            };
+            if self.step(drawing, &mut search, spot)? {
                 self.turn(&search, spot);
-                return true;
+                return Ok(true);
             }
         }
-        false
+        Ok(false)
     }
 }
 
-/// The nodes below level p right under gate v and the nodes of level p below it.
-fn entries(drawing: &Plain, levels: &[u16; 256], v: u8, p: u16) -> [bool; 256] {
-    let mut inside = [false; 256];
-    let mut entries = [false; 256];
-    inside[v as usize] = true;
-    for u in (1..=255u8).rev() {
-        if inside[u as usize] {
-            for f in drawing.fanins(u) {
-                if levels[f as usize] == p {
-                    inside[f as usize] = true;
-                } else if f != 0 {
-                    entries[f as usize] = true;
+/// The levels of a drawing's needed gates, as far as they are worked out; 0 for all other nodes.
+#[derive(Drop)]
+struct Survey<'a> {
+    alloc: Global,
+    drawing: Plain<'a>,
+    width: u8,
+    levels: [u16; 256],
+}
+
+impl Survey<'_> {
+    /// The nodes below level p right under gate v and the nodes of level p below it. The constant is a dead end.
+    fn entries(&self, v: u8, p: u16) -> Result<Vec<u8>, AllocError> {
+        let mut inside = [false; 256];
+        let mut entries = Vec::new(self.alloc);
+        inside[v as usize] = true;
+        for u in (0..=v).rev() {
+            if inside[u as usize]
+                && let Some(fanins) = self.drawing.fanins(u)
+            {
+                for fanin in fanins {
+                    if self.levels[fanin as usize] == p {
+                        inside[fanin as usize] = true;
+                    } else {
+                        entries.push(fanin)?;
+                    }
                 }
             }
         }
+        Ok(entries)
     }
-    entries
-}
 
-/// Whether gate v has a cut of at most `width` leaves with all leaves below level p.
-fn has_cut(drawing: &Plain, levels: &[u16; 256], v: u8, p: u16, width: u8) -> bool {
-    let entries = entries(drawing, levels, v, p);
-    let mut flow = Flow::new();
-    for _ in 0..=width {
-        if !flow.augment(drawing, &entries) {
-            return true;
+    /// Whether gate v has a cut of at most `width` leaves with all leaves below level p.
+    fn has_cut(&self, v: u8, p: u16) -> Result<bool, AllocError> {
+        let entries = self.entries(v, p)?;
+        let mut flow = Flow::new();
+        for _ in 0..=self.width {
+            let search = Search::new(self.alloc, entries.as_slice())?;
+            if !flow.augment(&self.drawing, search)? {
+                return Ok(true);
+            }
+        }
+        Ok(false)
+    }
+
+    /// The level of gate v, all below it being worked out.
+    fn level(&self, v: u8) -> Result<u16, AllocError> {
+        let Some(fanins) = self.drawing.fanins(v) else {
+            return Ok(0);
+        };
+        let [left, right] = fanins;
+        let p = self.levels[left as usize].max(self.levels[right as usize]);
+        if p > 0 && self.has_cut(v, p)? {
+            Ok(p)
+        } else {
+            Ok(p.saturating_add(1))
         }
     }
-    false
 }
 
 /// The levels of the needed gates; 0 for all other nodes.
-pub fn levels_of(drawing: &Plain, needed: &[bool; 256], width: u8) -> [u16; 256] {
-    let mut levels = [0u16; 256];
-    for v in 1..=255u8 {
-        if needed[v as usize] {
-            let [left, right] = drawing.fanins(v);
-            let p = levels[left as usize].max(levels[right as usize]);
-            levels[v as usize] = if p > 0 && has_cut(drawing, &levels, v, p, width) {
-                p
-            } else {
-                p.saturating_add(1)
-            };
+pub fn levels_of(
+    alloc: Global,
+    drawing: Plain,
+    needed: &[bool; 256],
+    width: u8,
+) -> Result<[u16; 256], AllocError> {
+    let mut survey = Survey {
+        alloc,
+        drawing,
+        width,
+        levels: [0; 256],
+    };
+    for (v, needed) in (0..=255u8).zip(needed) {
+        if *needed {
+            survey.levels[v as usize] = survey.level(v)?;
         }
     }
-    levels
+    Ok(survey.levels)
 }

@@ -7,7 +7,7 @@ mod plain;
 mod random;
 mod tally;
 
-use draw::draw;
+use draw::{NoDrawing, draw};
 use random::Random;
 use std::io;
 use tally::Tally;
@@ -16,19 +16,20 @@ const DRAWINGS: u32 = 200;
 
 fn main(rt: HostRuntime) -> io::Result<()> {
     let mut random = Random::new(1);
-    let mut all = [Tally::new(2), Tally::new(3), Tally::new(4), Tally::new(5)];
+    let mut all = [2, 3, 4, 5].map(Tally::new);
     for _ in 0..DRAWINGS {
-        match draw(&mut random) {
+        match draw(rt.alloc(), &mut random) {
             Ok(mut job) => {
-                for tally in all.iter_mut() {
-                    tally.compare(&mut job, &mut random);
+                for tally in &mut all {
+                    tally.compare(rt.alloc(), &mut job, &mut random)?;
                 }
             }
-            Err(_) => println!(rt; "a drawing was refused")?,
+            Err(NoDrawing::Refused(_)) => println!(rt; "a drawing was refused")?,
+            Err(NoDrawing::OutOfMemory(failure)) => return Err(io::Error::from(failure)),
         }
     }
     println!(rt; "{DRAWINGS} drawings")?;
-    for tally in all.iter() {
+    for tally in &all {
         rt.println(tally)?;
     }
     Ok(())

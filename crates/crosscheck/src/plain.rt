@@ -8,77 +8,70 @@ pub fn node_of(literal: u16) -> u8 {
     ((literal / 2) & 255) as u8
 }
 
-/// The nodes of a drawing, and how many there are.
-#[derive(Drop)]
-pub struct Plain {
-    pub nodes: [Node; 256],
-    pub count: usize,
+/// The nodes and the outputs of a drawing.
+#[derive(Clone, Copy)]
+pub struct Plain<'a> {
+    nodes: &'a [Node],
+    pub outputs: &'a [u16],
 }
 
-impl Plain {
-    pub fn of(table: &Table) -> Plain {
-        let mut nodes = [Node::Constant; 256];
-        for (place, node) in nodes.iter_mut().zip(table.nodes().iter()) {
-            *place = *node;
+impl<'a> From<&'a Table> for Plain<'a> {
+    fn from(table: &'a Table) -> Plain<'a> {
+        Plain {
+            nodes: table.nodes(),
+            outputs: table.outputs(),
         }
-        let count = table.nodes().len();
-        Plain { nodes, count }
     }
+}
 
-    /// The fanins of a node that are not node 0; a 0 stands where there is none.
-    pub fn fanins(&self, v: u8) -> [u8; 2] {
-        match self.nodes[v as usize] {
-            Node::Gate(pair) => [node_of(pair.left), node_of(pair.right)],
-            Node::Constant | Node::Input => [0, 0],
+impl Plain<'_> {
+    /// The fanins of a gate; an input and the constant have none.
+    pub fn fanins(&self, v: u8) -> Option<[u8; 2]> {
+        match self.nodes.get(v as usize)? {
+            Node::Gate(pair) => Some([node_of(pair.left), node_of(pair.right)]),
+            Node::Constant | Node::Input => None,
         }
     }
 
     pub fn is_input(&self, v: u8) -> bool {
-        self.nodes[v as usize].is_input()
+        self.nodes
+            .get(v as usize)
+            .is_some_and(|node| node.is_input())
     }
 
     /// How many inputs there are.
     pub fn inputs(&self) -> usize {
-        let mut inputs = 0usize;
-        for v in 0..=255u8 {
-            if self.is_input(v) {
-                inputs = inputs.saturating_add(1);
-            }
-        }
-        inputs
+        self.nodes.iter().filter(|node| node.is_input()).count()
     }
 
     /// The gates that some output depends on.
-    pub fn needed(&self, outputs: &[u16]) -> [bool; 256] {
-        let mut marks = [false; 256];
-        for literal in outputs {
-            marks[node_of(*literal) as usize] = true;
+    pub fn needed(&self) -> [bool; 256] {
+        let mut reached = [false; 256];
+        let mut needed = [false; 256];
+        for literal in self.outputs {
+            reached[node_of(*literal) as usize] = true;
         }
         for v in (0..=255u8).rev() {
-            if marks[v as usize] {
-                let [left, right] = self.fanins(v);
-                marks[left as usize] = true;
-                marks[right as usize] = true;
+            if reached[v as usize]
+                && let Some(fanins) = self.fanins(v)
+            {
+                needed[v as usize] = true;
+                for fanin in fanins {
+                    reached[fanin as usize] = true;
+                }
             }
         }
-        for v in 0..=255u8 {
-            marks[v as usize] = marks[v as usize] && self.nodes[v as usize].is_gate();
-        }
-        marks
+        needed
     }
 
     /// The values of all nodes, the inputs being those of the row.
     pub fn simulate(&self, row: &[u8]) -> [u8; 256] {
         let mut values = [0u8; 256];
-        let mut place = 0usize;
-        for v in 0..=255u8 {
-            values[v as usize] = match self.nodes[v as usize] {
+        let mut row = row.iter();
+        for (v, node) in (0..=255u8).zip(self.nodes) {
+            values[v as usize] = match node {
                 Node::Constant => 0,
-                Node::Input => {
-                    let value = row.get(place).copied().unwrap_or(0);
-                    place = place.saturating_add(1);
-                    value
-                }
+                Node::Input => row.next().copied().unwrap_or(0),
                 Node::Gate(pair) => literal_value(&values, pair.left)
                     & literal_value(&values, pair.right),
             };

@@ -3,6 +3,7 @@
 ghost use Rattle.std.specs.Prelude.{◌<◌};
 
 /// A linear congruential generator of 32 bits; its upper half is used.
+// the kit's generators give other numbers, and so other drawings than those whose counts this program prints
 #[derive(Drop)]
 pub struct Random {
     state: u32,
