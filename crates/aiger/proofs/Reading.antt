@@ -78,10 +78,6 @@ right_end more done v w r s e d on place =
     ∙ turn_ends more done v r.pos s.rest.now
     ∙ ap (λ p. cond (eqb more 0) (whole (done ++ v ∷ []) p s.rest.now) (scan (more - 1) (done ++ v ∷ []) None p s.rest.now)) (sym place)
 
--- a number with others to come
-pub closed_more : (more : ℕ) (done : List ℕ) (r : Reader) → 0 < more → closed more done r ≡ scan_on (more - 1) done None r
-closed_more more done r h = cond-false _ _ _ (ne_eqb more 0 (omega arith))
-
 -- the outputs that one more line of a part adds
 pub due_step : (p : Part) (i : ℕ) → (i + 1) * due p ≡ i * due p + due p
 due_step Inputs i = omega arith

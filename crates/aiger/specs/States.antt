@@ -6,10 +6,10 @@ use Rattle.aiger.specs.declared.line.Line.{Line}
 use Rattle.aiger.specs.declared.part.Part.{Part}
 use Rattle.aiger.specs.declared.part.Part.TheVariants.{Inputs, Outputs, Gates}
 use Rattle.aiger.specs.declared.reader.Reader.{Reader}
-use Rattle.drawing.specs.Drawing.{Drawing, drawing}
+use Rattle.drawing.specs.Drawing.{Drawing, drawing, most_nodes, most_outputs}
 use Rattle.drawing.specs.declared.refusal.Fault.{Fault}
 use Rattle.drawing.specs.declared.refusal.Rule.TheVariants.{Pattern, Literal}
-use Rattle.aiger.specs.Reads.{Scan, broken, whole, scan, is_digit, Sheet, fits, add, Outcome, headed, read_lines}
+use Rattle.aiger.specs.Reads.{Scan, broken, whole, scan, is_digit, Sheet, fits, add, Outcome, headed, plan, blank, read_lines, read_heading}
 
 -- the fault of a pattern that the next byte breaks: at that byte
 abbrev pub broken_at : Reader → Fault
@@ -44,6 +44,14 @@ pub record Passes (more : ℕ) (r : Reader) (v : ℕ) (s : Reader) : Type 0 wher
   pub row : s.row ≡ r.row
   pub on : r.pos < s.pos
   pub same : (done : List ℕ) → scan_on more done None r ≡ closed more (done ++ v ∷ []) s
+
+-- the reader r reads the line l, with `width` numbers after its first, and is s then: at the line behind it
+pub record Ends (width : ℕ) (r : Reader) (l : Line) (s : Reader) : Type 0 where
+  pub same : scan_on width [] None r ≡ whole l.numbers.items s.pos s.rest.now
+  pub count : length l.numbers.items ≡ width + 1
+  pub start : l.start ≡ r.pos
+  pub row : l.row ≡ r.row
+  pub next : s.row ≡ r.row + 1
 
 -- f is the fault of a line with this row that breaks its pattern: at the byte where the scan breaks
 pub record Breaks (s : Scan) (row : ℕ) (f : Fault) : Type 0 where
@@ -85,3 +93,9 @@ owed ps sh r = read_lines ps sh r.row r.pos r.rest.now
 pub record Follows (p : Part) (count : ℕ) (t : Draft) (r : Reader) (u : Draft) (s : Reader) : Type 0 where
   pub outputs : length (drafted u).outputs ≤ length (drafted t).outputs + count * due p
   pub same : (ps : List Part) → owed (replicate count p ++ ps) (drafted t) r ≡ owed ps (drafted u) s
+
+-- the reader r reads the header h, and is s then: it owes the lines that h announces, which are not too many
+pub record Heads (r : Reader) (h : Header) (s : Reader) : Type 0 where
+  pub same : read_heading (scan_on 4 [] None r) ≡ owed (plan h.inputs h.outputs h.gates) (blank h.last) s
+  pub nodes : h.last < most_nodes
+  pub outputs : h.outputs ≤ most_outputs

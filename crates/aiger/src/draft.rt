@@ -49,15 +49,9 @@ impl Draft {
         ensures room { length (drafted self.new).outputs ≤ length (drafted self.old).outputs + due part }
     {
         match (part, numbers) {
-            (Part::Inputs, [literal]) => self.input(*literal),
-            (Part::Outputs, [literal]) => self.output(*literal),
-            (Part::Gates, [literal, left, right]) => self.gate(
-                *literal,
-                Pair {
-                    left: *left,
-                    right: *right,
-                },
-            ),
+            (Part::Inputs, &[literal]) => self.input(literal),
+            (Part::Outputs, &[literal]) => self.output(literal),
+            (Part::Gates, &[literal, left, right]) => self.gate(literal, Pair { left, right }),
             _ => None,
         }
     }
@@ -100,10 +94,7 @@ impl Draft {
         ensures room { (drafted self.new).outputs ≡ (drafted self.old).outputs }
     {
         let node = self.above(self.gate, literal)?;
-        if self.nodes[node].is_input()
-            || pair.left / 2 >= literal / 2
-            || pair.right / 2 >= literal / 2
-        {
+        if self.nodes[node].is_input() || !pair.is_below(literal / 2) {
             return None;
         }
         self.nodes[node] = Node::Gate(pair);

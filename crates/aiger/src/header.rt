@@ -22,15 +22,15 @@ impl Header {
         ensures { MatchOption result (headed figures.now ≡ false) (Announces figures.now) }
     {
         match figures {
-            [last, inputs, 0, outputs, gates]
-                if usize::from(*last) == usize::from(*inputs) + usize::from(*gates)
-                    && usize::from(*last) < MOST_NODES
-                    && usize::from(*outputs) <= MOST_OUTPUTS => {
+            &[last, inputs, 0, outputs, gates]
+                if usize::from(last) == usize::from(inputs) + usize::from(gates)
+                    && usize::from(last) < MOST_NODES
+                    && usize::from(outputs) <= MOST_OUTPUTS => {
                 Some(Header {
-                    last: usize::from(*last),
-                    inputs: usize::from(*inputs),
-                    outputs: usize::from(*outputs),
-                    gates: usize::from(*gates),
+                    last: usize::from(last),
+                    inputs: usize::from(inputs),
+                    outputs: usize::from(outputs),
+                    gates: usize::from(gates),
                 })
             }
             _ => None,

@@ -27,9 +27,9 @@ pub struct Reader<'a> {
 
 impl<'a> Reader<'a> {
     ghost use Rattle.std.specs.Prelude.{ℕ, List, [], ◌∷◌, ◌++◌, replicate, drop, None, Ok, Err, MatchOption, MatchResult, ◌*◌};
-    ghost use Rattle.aiger.specs.Reads.{blank, plan, read, read_heading, Sheet, whole};
-    ghost use Rattle.aiger.specs.States.{Breaks, broken_at, drafted, due, Follows, NoDigit, Numbers, owed, Passes, scan_on};
-    ghost use Rattle.drawing.specs.Drawing.{drawing, most_nodes, most_outputs};
+    ghost use Rattle.aiger.specs.Reads.{read, read_heading, Sheet};
+    ghost use Rattle.aiger.specs.States.{Breaks, broken_at, drafted, due, Ends, Follows, Heads, NoDigit, Numbers, owed, Passes, scan_on};
+    ghost use Rattle.drawing.specs.Drawing.{drawing, most_outputs};
 
     /// Before the first byte of the text.
     pub(crate) fn new(text: &'a [u8]) -> Reader<'a>
@@ -59,9 +59,8 @@ impl<'a> Reader<'a> {
         ensures { MatchResult result (λ _. (self.old.rest.now ≡ wanted ∷ self.new.rest.now) × (self.new.pos ≡ self.old.pos + 1) × (self.new.row ≡ self.old.row)) (λ f. (f ≡ broken_at self.old) × ((bs : List ℕ) → self.old.rest.now ≡ wanted ∷ bs → ⊥)) }
     {
         match self.rest {
-            [byte, rest @ ..] if *byte == wanted => {
-                self.rest = rest;
-                self.pos += 1;
+            [byte, ..] if *byte == wanted => {
+                self.advance();
                 Ok(())
             }
             _ => Err(self.broken()),
@@ -100,10 +99,7 @@ impl<'a> Reader<'a> {
             number = Some(longer);
             self.advance();
         }
-        match number {
-            Some(v) => Ok(v),
-            None => Err(self.broken()),
-        }
+        number.ok_or(self.broken())
     }
 
     /// The next number of a line, with its end: the line's, where no more numbers come after it, and else a space.
@@ -118,15 +114,14 @@ impl<'a> Reader<'a> {
     /// The next line, which has `width` numbers after its first.
     fn line(&mut self, width: usize) -> Result<Line, Fault>
         requires { width < 5 }
-        ensures { MatchResult result (λ l. (scan_on width [] None self.old ≡ whole l.numbers.items self.new.pos self.new.rest.now) × (length l.numbers.items ≡ width + 1) × (l.start ≡ self.old.pos) × (l.row ≡ self.old.row) × (self.new.row ≡ self.old.row + 1)) (λ f. Breaks (scan_on width [] None self.old) self.old.row f) }
+        ensures { MatchResult result (λ l. Ends width self.old l self.new) (λ f. Breaks (scan_on width [] None self.old) self.old.row f) }
     {
         let start = self.pos;
         let row = self.row;
         let mut numbers = ArrayVec::new();
-        for i in 0..width {
+        for i in 0..=width {
             numbers.push(self.number(width - i)?);
         }
-        numbers.push(self.number(0)?);
         self.row += 1;
         Ok(Line {
             numbers,
@@ -149,7 +144,7 @@ impl<'a> Reader<'a> {
     /// The header's figures.
     pub(crate) fn header(&mut self) -> Result<Header, Fault>
         requires { self.old.row ≡ 0 }
-        ensures { MatchResult result (λ h. (read_heading (scan_on 4 [] None self.old) ≡ owed (plan h.inputs h.outputs h.gates) (blank h.last) self.new) × (h.last < most_nodes) × (h.outputs ≤ most_outputs)) (λ f. read_heading (scan_on 4 [] None self.old) ≡ Err f) }
+        ensures { MatchResult result (λ h. Heads self.old h self.new) (λ f. read_heading (scan_on 4 [] None self.old) ≡ Err f) }
     {
         let line = self.line(4)?;
         Header::of(&line.numbers).ok_or(Fault {
@@ -166,9 +161,7 @@ impl<'a> Reader<'a> {
     {
         for _i in 0..count {
             let line = self.line(part.width())?;
-            let Some(()) = draft.put(part, &line.numbers) else {
-                return Err(line.misplaced());
-            };
+            draft.put(part, &line.numbers).ok_or(line.misplaced())?;
         }
         Ok(())
     }

@@ -12,10 +12,10 @@ pub struct Pair {
 
 impl Pair {
     /// Whether both literals name nodes below `v`.
-    pub(crate) fn is_below(self, v: u8) -> bool
+    pub fn is_below(self, v: u16) -> bool
         ensures { result ≡ (nat_lt (node_of self.left) v && nat_lt (node_of self.right) v) }
     {
-        self.left / 2 < u16::from(v) && self.right / 2 < u16::from(v)
+        self.left / 2 < v && self.right / 2 < v
     }
 }
 

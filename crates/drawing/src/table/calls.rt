@@ -144,7 +144,7 @@ impl Table {
         if !self.is_gate(gate) {
             return Err(Refusal::NotAGate);
         }
-        if !pair.is_below(gate) {
+        if !pair.is_below(u16::from(gate)) {
             return Err(Refusal::BadLiteral);
         }
         self.nodes[usize::from(gate)] = Node::Gate(pair);

@@ -1,6 +1,7 @@
-use Rattle.std.proofs.Common.{ap, ◌∙◌, arith}
+use Rattle.std.proofs.Common.{◌≡◌, ℕ, List, MatchResult, None, Option, Some, ok_or, refl, ap, ◌∙◌, arith}
+use Rattle.drawing.specs.declared.refusal.Fault.{Fault}
 use Rattle.aiger.specs.Reads.{Stop}
-use Rattle.aiger.specs.States.{scan_on}
+use Rattle.aiger.specs.States.{Breaks, Numbers, scan_on}
 use Rattle.aiger.proofs.Reading.{breaks_at, no_number, scan_grows, scan_step}
 use Rattle.aiger.proofs.reader.Reader.digits.Goals as goal
 
@@ -20,19 +21,22 @@ loop-byte-preserved c =
       λ more done. c.loop-byte.invariant.2 more done ∙ scan_grows more done c.loop-byte.number r s c.in-Some.byte c.in-Some-extended.longer c.in-Some.ensures.2 (c.in-Some-extended.ensures more) c.advance.ensures.rest c.advance.ensures.place.0,
     )
 
-pub returns-in-None : goal.returns-in-None
-returns-in-None c =
-    let r = c.loop-byte.self in
-    λ more done. breaks_at _ _ r c.broken-in-None.result
-    (c.loop-byte.invariant.2 more done ∙ ap (λ n. scan_on more done n r) c.in-None.is ∙ no_number more done r c.in_default.ensures)
-    c.loop-byte.invariant.0 c.broken-in-None.ensures
+match_ok_or : {T E : Type 0} (P : T → Type 0) (Q : E → Type 0) (o : Option T) (e : E) → ((v : T) → o ≡ Some v → P v) → (o ≡ None → Q e) → MatchResult (ok_or o e) P Q
+match_ok_or P Q (Some v) e some none = some v refl
+match_ok_or P Q None e some none = none refl
 
-pub returns-in-Some-number : goal.returns-in-Some-number
-returns-in-Some-number c =
-    let r = c.loop-byte.self in
-    record {
+pub returns : goal.returns
+returns c =
+    let r = c.args.self.now in
+    let s = c.loop-byte.self in
+    let P : ℕ → Type 0 = λ v. Numbers r v s in
+    let Q : Fault → Type 0 = λ f. (more : ℕ) (done : List ℕ) → Breaks (scan_on more done None r) r.row f in
+    rw c.ok_or.ensures.value
+    (match_ok_or P Q c.loop-byte.number _
+    (λ v is. record {
       row = c.loop-byte.invariant.0;
       on = c.loop-byte.invariant.1;
-      same = λ more done. c.loop-byte.invariant.2 more done ∙ ap (λ n. scan_on more done n r) c.in-Some-number.is;
+      same = λ more done. c.loop-byte.invariant.2 more done ∙ ap (λ n. scan_on more done n s) is;
       ends = c.in_default.ensures;
-    }
+    })
+    (λ is more done. breaks_at _ _ s _ (c.loop-byte.invariant.2 more done ∙ ap (λ n. scan_on more done n s) is ∙ no_number more done s c.in_default.ensures) c.loop-byte.invariant.0 c.broken-2.ensures))

@@ -10,6 +10,6 @@ invariant_of-self c =
     let tied = set t.nodes.items c.args.gate (Gate c.args.pair) in
     let kept = items-with_items t.nodes tied (length-set t.nodes.items c.args.gate (Gate c.args.pair)) in
     record {
-      law = rw (c.deref_mut.ensures.value, c.from.ensures, kept)
-          (lawful_tie t.nodes.items t.outputs.items c.args.gate c.args.pair t.law (sym c.if-not-is_gate.ensures) (sym c.if-not-is_below.ensures));
+      law = rw (c.deref_mut.ensures.value, c.from-2.ensures, kept)
+          (lawful_tie t.nodes.items t.outputs.items c.args.gate c.args.pair t.law (sym c.if-not-is_gate.ensures) (rw c.from.ensures at (sym c.if-not-is_below.ensures)));
     }
