@@ -8,7 +8,7 @@ use Rattle.drawing.specs.declared.node.Node.TheVariants.{Constant, Gate}
 use Rattle.drawing.specs.Sets.{every, In}
 use Rattle.drawing.specs.Drawing.{drawing, node_of, at, is_gate, sound_at, sound, names, lawful, most_nodes, most_outputs}
 use Rattle.drawing.proofs.Members.{every_in, in_every, in_append}
-use Rattle.drawing.proofs.Sound.{sound_push, sound_set, sound_some}
+use Rattle.drawing.proofs.Sound.{sound_push, sound_set}
 
 -- the four parts of the law
 pub record Lawfully (nodes : List Node) (outputs : List ℕ) : Type 0 where
@@ -53,12 +53,6 @@ lawful_node nodes outputs n h l s =
       nodes_few = omega (arith, length_push nodes n);
       outputs_few = w.outputs_few;
     }
-
--- a gate whose literals name nodes of the drawing is sound behind them
-pub gate_sound : (nodes : List Node) (p : Pair) → sound nodes ≡ true → names nodes p.left ≡ true → names nodes p.right ≡ true → sound_at (length nodes) (Gate p) ≡ true
-gate_sound nodes p s l r =
-    let e : eqb (length nodes) 0 ≡ false = ne_eqb (length nodes) 0 (omega (arith, sound_some nodes s)) in
-    rw e (and_from _ _ refl (and_from _ _ l (and_from _ _ r refl)))
 
 -- one output more
 pub lawful_output : (nodes : List Node) (outputs : List ℕ) (l : ℕ) → lawful (drawing nodes outputs) ≡ true → length outputs < most_outputs → names nodes l ≡ true → lawful (drawing nodes (outputs ++ l ∷ [])) ≡ true

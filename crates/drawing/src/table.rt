@@ -2,8 +2,8 @@
 
 pub mod calls;
 
-ghost use Rattle.std.specs.Prelude.{◌≡◌, true};
-ghost use Rattle.drawing.specs.Drawing.{drawing, lawful};
+ghost use Rattle.std.specs.Prelude.{◌≡◌, ◌≤◌, length, true};
+ghost use Rattle.drawing.specs.Drawing.{drawing, lawful, most_nodes, most_outputs};
 
 use crate::node::Node;
 use arrayvec::ArrayVec;
@@ -14,5 +14,6 @@ use calls::{MOST_NODES, MOST_OUTPUTS};
 pub struct Table {
     nodes: ArrayVec<Node, MOST_NODES>,
     outputs: ArrayVec<u16, MOST_OUTPUTS>,
+    ghost within: { (length nodes.items ≤ most_nodes) × (length outputs.items ≤ most_outputs) },
     ghost law: { lawful (drawing nodes.items outputs.items) ≡ true },
 }

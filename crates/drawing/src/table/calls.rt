@@ -32,6 +32,7 @@ impl Table {
     }
 
     /// The drawing of these nodes and outputs.
+    #[tactic(auto, using(crate::proofs::Lawful::lawful_says))]
     pub fn of(nodes: ArrayVec<Node, MOST_NODES>, outputs: ArrayVec<u16, MOST_OUTPUTS>) -> Table
         requires { lawful (drawing nodes.items outputs.items) ≡ true }
         ensures { drawing_of result ≡ drawing nodes.items outputs.items }
