@@ -3,7 +3,7 @@
 ghost use Rattle.std.specs.Prelude.{◌≡◌, ◌<◌, ◌≤◌, ◌∷◌};
 ghost use Rattle.blif.specs.Meaning.{HasMeaning, Means};
 ghost use Rattle.blif.specs.Sections.{section_answer, section_count, section_text, section_writes};
-ghost use Rattle.blif.specs.Text.{cell_text, head_text, leaf_digits, line, name, node_names, output_names, output_text, table_lines};
+ghost use Rattle.blif.specs.Text.{cell_text, head_text, line, name, node_names, output_text, table_lines};
 ghost use Rattle.cells.specs.Netlists.{netlist_of};
 ghost use Rattle.drawing.specs.Drawing.{most_leaves, most_nodes, most_outputs, node_of};
 ghost use Rattle.pen.specs.Wrote.{Wrote};
@@ -31,27 +31,7 @@ fn put_nodes(pen: &mut Pen<'_>, nodes: &[u8])
     }
 }
 
-/// The names of the outputs.
-fn put_output_names(pen: &mut Pen<'_>, count: usize)
-    requires { count ≤ most_outputs }
-    ensures { Wrote pen.old (output_names count) pen.new }
-{
-    for k in 0..count {
-        put_name(pen, b'o', k);
-    }
-}
-
-/// The values of the leaves in row `m`, leaf 0 first.
-fn put_digits(pen: &mut Pen<'_>, m: u32, count: usize)
-    requires { count ≤ most_leaves }
-    ensures { Wrote pen.old (leaf_digits m count) pen.new }
-{
-    for j in 0..count {
-        pen.byte(b'0' + ((m >> j) & 1) as u8);
-    }
-}
-
-/// The line of row `m`.
+/// The line of row `m`: the values of the leaves, leaf 0 first, and the value 1.
 fn put_line(pen: &mut Pen<'_>, m: u32, count: usize)
     requires { count ≤ most_leaves }
     ensures { Wrote pen.old (line count m) pen.new }
@@ -59,7 +39,9 @@ fn put_line(pen: &mut Pen<'_>, m: u32, count: usize)
     if count == 0 {
         return pen.text(b"1\n");
     }
-    put_digits(pen, m, count);
+    for j in 0..count {
+        pen.byte(b'0' + ((m >> j) & 1) as u8);
+    }
     pen.text(b" 1\n");
 }
 
@@ -115,7 +97,9 @@ fn put_head(pen: &mut Pen<'_>, inputs: &[u8], outputs: usize)
     pen.text(b".model lutmap\n.inputs");
     put_nodes(pen, inputs);
     pen.text(b"\n.outputs");
-    put_output_names(pen, outputs);
+    for k in 0..outputs {
+        put_name(pen, b'o', k);
+    }
     pen.text(b"\n");
 }
 
