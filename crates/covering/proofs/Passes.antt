@@ -6,11 +6,18 @@ use Rattle.drawing.specs.declared.node.Node.{Node}
 use Rattle.drawing.specs.declared.node.Node.TheVariants.{Constant}
 use Rattle.drawing.specs.Sets.{below}
 use Rattle.drawing.specs.Drawing.{at, is_input, sound}
+use Rattle.drawing.specs.declared.table.Table.{Table}
+use Rattle.drawing.specs.Tables.{drawing_of}
 use Rattle.drawing.specs.Values.{inputs_of}
+use Rattle.drawing.proofs.Lawful.{Lawfully, lawful_says}
 use Rattle.drawing.proofs.InputLaws.{inputs_push, inputs_below, inputs_rise}
 use Rattle.drawing.proofs.ValueLaws.{first_constant}
 use Rattle.drawing.proofs.Lists.{rises_few}
 use Rattle.covering.specs.Chosen.{set_at}
+
+-- what a table's law says of its drawing
+pub table_says : (t : Table) → Lawfully (drawing_of t).nodes (drawing_of t).outputs
+table_says t = lawful_says (drawing_of t).nodes (drawing_of t).outputs t.law
 
 -- the inputs, a node at a time
 module _ (nodes : List Node) (v : ℕ) (l : v < length nodes) where

@@ -32,17 +32,11 @@ impl Job {
         if arrivals.len() < self.table.nodes().len() {
             return Err(Refusal::TooShort);
         }
-        let marks = reached(self.table.nodes(), self.table.outputs());
+        let marks = reached(&self.table);
         let made = self.make_lists(&marks)?;
         let cuts = self.take_cuts(family, &marks, arrivals);
-        let cells = fill(
-            family,
-            self.table.nodes(),
-            self.table.outputs(),
-            self.width,
-            &cuts,
-            cover,
-        );
+        let job = &*self;
+        let cells = fill(family, &job.table, job.width, &cuts, cover);
         Ok((cells, made))
     }
 }

@@ -30,7 +30,8 @@ impl Job {
         let mut cuts = [Cut::empty(); MOST_NODES];
         for v in 0..self.table.nodes().len() {
             let needed = self.needs(v as u8, marks);
-            cuts[v] = arrive(family, needed, self.lists.row(v as u8), v, table);
+            let list = needed.then_some(self.lists.row(v as u8));
+            cuts[v] = arrive(family, list, v, table);
         }
         cuts
     }

@@ -1,7 +1,7 @@
-use Rattle.std.proofs.Common.{◌≡◌, true, length, sym, ap, ◌∙◌, subst, arith, rules}
+use Rattle.std.proofs.Common.{◌≡◌, true, length, sym, ap, ◌∙◌, subst}
 use Rattle.drawing.specs.Drawing.{most_leaves}
 use Rattle.drawing.specs.Sets.{every}
-use Rattle.drawing.proofs.Lawful.{lawful_says}
+use Rattle.drawing.specs.Tables.{drawing_of}
 use Rattle.cuts.specs.Leaves.{sets_of}
 use Rattle.choice.proofs.Cells.{chosen_under}
 use Rattle.cells.specs.Netlist.{Netlist}
@@ -14,29 +14,20 @@ pub reached_by-marks-requires : goal.reached_by-marks-requires
 reached_by-marks-requires g c =
     let F = g.F.Family.delay c.args.family.now in
     let L = g.met.F.Family.lawful c.args.family.now in
+    let d = drawing_of c.args.table.now in
     record {
-      law = c.requires.law;
       each = c.requires.each;
-      under = chosen_under F L c.args.nodes.now c.args.outputs.now c.requires.law c.args.width c.requires.wide.0 (sets_of c.args.cuts.now) c.requires.taken;
+      under = chosen_under F L d.nodes d.outputs c.args.table.now.law c.args.width c.requires.wide.0 (sets_of c.args.cuts.now) c.requires.taken;
     }
-
-pub put_inputs-requires : goal.put_inputs-requires
-put_inputs-requires g c =
-    let w = lawful_says c.args.nodes.now c.args.outputs.now c.requires.law in
-    record { right = w.nodes_sound; few = w.nodes_few; bare = search rules }
 
 pub put_cells-requires : goal.put_cells-requires
 put_cells-requires g c =
     let F = g.F.Family.delay c.args.family.now in
     let L = g.met.F.Family.lawful c.args.family.now in
-    let nodes = c.args.nodes.now in
-    let outs = c.args.outputs.now in
-    let w = lawful_says nodes outs c.requires.law in
+    let d = drawing_of c.args.table.now in
     record {
-      right = w.nodes_sound;
-      few = w.nodes_few;
-      each = (c.requires.each, omega (arith, w.nodes_few));
-      stands = rival_bare nodes outs c.args.width most_leaves _ _ c.requires.wide.1 (marked_rival F L nodes outs c.requires.law c.args.width c.requires.wide.0 (sets_of c.args.cuts.now) c.requires.taken c.reached_by-marks.result c.reached_by-marks.ensures);
+      each = c.requires.each;
+      stands = rival_bare d.nodes d.outputs c.args.width most_leaves _ _ c.requires.wide.1 (marked_rival F L d.nodes d.outputs c.args.table.now.law c.args.width c.requires.wide.0 (sets_of c.args.cuts.now) c.requires.taken c.reached_by-marks.result c.reached_by-marks.ensures);
       bare = c.put_inputs.ensures;
     }
 
@@ -44,23 +35,20 @@ pub put_outputs-requires : goal.put_outputs-requires
 put_outputs-requires g c =
     let F = g.F.Family.delay c.args.family.now in
     let L = g.met.F.Family.lawful c.args.family.now in
-    let nodes = c.args.nodes.now in
-    let outs = c.args.outputs.now in
+    let d = drawing_of c.args.table.now in
     record {
-      few = (lawful_says nodes outs c.requires.law).outputs_few;
       bare = ap (λ (n : Netlist). n.outputs) c.put_cells.ensures;
-      named = subst (λ (n : Netlist). every (output_lawful (names_of n)) outs ≡ true) (sym c.put_cells.ensures) (outputs_right F L nodes outs c.requires.law c.args.width c.requires.wide.0 (sets_of c.args.cuts.now) c.requires.taken c.reached_by-marks.result c.reached_by-marks.ensures c.requires.wide.1);
+      named = subst (λ (n : Netlist). every (output_lawful (names_of n)) d.outputs ≡ true) (sym c.put_cells.ensures) (outputs_right F L d.nodes d.outputs c.args.table.now.law c.args.width c.requires.wide.0 (sets_of c.args.cuts.now) c.requires.taken c.reached_by-marks.result c.reached_by-marks.ensures c.requires.wide.1);
     }
 
 pub returns : goal.returns
 returns g c =
     let F = g.F.Family.delay c.args.family.now in
     let L = g.met.F.Family.lawful c.args.family.now in
-    let nodes = c.args.nodes.now in
-    let outs = c.args.outputs.now in
+    let d = drawing_of c.args.table.now in
     let m = netlist_of c.put_cells.new.cover in
     let n = netlist_of c.put_outputs.new.cover in
     record {
-      netlist = filled_is F L nodes outs c.requires.law c.args.width c.requires.wide.0 (sets_of c.args.cuts.now) c.requires.taken c.reached_by-marks.result c.reached_by-marks.ensures m n c.put_cells.ensures c.put_outputs.ensures;
-      count = ap length c.cells.ensures ∙ filled_count F L nodes outs c.requires.law c.args.width c.requires.wide.0 (sets_of c.args.cuts.now) c.requires.taken c.reached_by-marks.result c.reached_by-marks.ensures m n c.put_cells.ensures c.put_outputs.ensures;
+      netlist = filled_is F L d.nodes d.outputs c.args.table.now.law c.args.width c.requires.wide.0 (sets_of c.args.cuts.now) c.requires.taken c.reached_by-marks.result c.reached_by-marks.ensures m n c.put_cells.ensures c.put_outputs.ensures;
+      count = ap length c.cells.ensures ∙ filled_count F L d.nodes d.outputs c.args.table.now.law c.args.width c.requires.wide.0 (sets_of c.args.cuts.now) c.requires.taken c.reached_by-marks.result c.reached_by-marks.ensures m n c.put_cells.ensures c.put_outputs.ensures;
     }

@@ -1,14 +1,9 @@
-use Rattle.std.proofs.Common.{◌≡◌, ℕ, ◌<◌, ◌≤◌, List, length, Ok, Err, sym, refl, ap, ◌∙◌, subst, arith}
+use Rattle.std.proofs.Common.{◌<◌, ◌≤◌, length, Ok, Err, sym, refl, ap, ◌∙◌, subst, arith}
 use Rattle.std.proofs.lemmas.Result.{err_from_is_err_and}
-use Rattle.drawing.specs.declared.node.Node.{Node}
 use Rattle.drawing.specs.declared.refusal.Refusal.TheVariants.{BadWidth, TooShort}
-use Rattle.drawing.specs.Drawing.{drawing}
-use Rattle.choice.specs.Choice.{cells as chosen_cells}
 use Rattle.cells.specs.Netlists.{netlist_of}
-use Rattle.covering.specs.Chosen.{chosen}
 use Rattle.fitter.specs.Book.{size}
 use Rattle.fitter.specs.Jobs.{book_of}
-use Rattle.fitter.specs.Making.{MarksNeeded}
 use Rattle.fitter.specs.Mapping.{Mapped}
 use Rattle.fitter.proofs.Accepting.{ready_kept, ready_marked, ready_room, map_accepted, map_stopped}
 use Rattle.fitter.proofs.Histories.{mapped_did, mapped_answers}
@@ -57,11 +52,8 @@ take_cuts-cuts-requires g c =
     let r = c.in_ok-made.ensures in
     let marks = c.reached-marks.result in
     let room : size (book_of i) ≤ length c.args.arrivals.now = omega (arith, ap length c.nodes.ensures, c.if-arrivals-nodes.false) in
-    let marked : MarksNeeded (book_of i).drawing marks =
-    subst (λ (ns : List Node). MarksNeeded (drawing ns (book_of i).drawing.outputs) marks) c.nodes-2.ensures
-    (subst (λ (os : List ℕ). MarksNeeded (drawing c.nodes-2.result.now os) marks) c.outputs.ensures c.reached-marks.ensures) in
     record {
-      marked = ready_marked i j c.in_ok-made.made r marks marked;
+      marked = ready_marked i j c.in_ok-made.made r marks c.reached-marks.ensures;
       lists = ready_kept i j c.in_ok-made.made r;
       room = ready_room i j c.in_ok-made.made r (length c.args.arrivals.now) room;
     }
@@ -77,13 +69,7 @@ returns g c =
     let cells = c.fill-cells.result in
     let r = c.in_ok-made.ensures in
     let room : size (book_of i) ≤ length table = omega (arith, ap length c.nodes.ensures, c.if-arrivals-nodes.false) in
-    let ns = c.nodes-3.ensures in
-    let os = c.outputs-2.ensures in
-    let covered : netlist_of c.fill-cells.new.cover ≡ chosen F (book_of j).drawing j.width =
-    c.fill-cells.ensures.netlist ∙ ap (λ (z : List Node). chosen F (drawing z c.outputs-2.result.now) j.width) ns ∙ ap (λ (z : List ℕ). chosen F (drawing (book_of j).drawing.nodes z) j.width) os in
-    let counted : cells ≡ length (chosen_cells F (book_of j).drawing.nodes j.width (book_of j).drawing.outputs) =
-    c.fill-cells.ensures.count ∙ ap (λ (z : List Node). length (chosen_cells F z j.width c.outputs-2.result.now)) ns ∙ ap (λ (z : List ℕ). length (chosen_cells F (book_of j).drawing.nodes j.width z)) os in
-    let m = map_accepted F i j table c.take_cuts-cuts.new.table cells made (netlist_of c.fill-cells.new.cover) (sym c.width.ensures ∙ c.if-width-self.false) room r covered counted c.take_cuts-cuts.ensures.arrivals in
+    let m = map_accepted F i j table c.take_cuts-cuts.new.table cells made (netlist_of c.fill-cells.new.cover) (sym c.width.ensures ∙ c.if-width-self.false) room r c.fill-cells.ensures.netlist c.fill-cells.ensures.count c.take_cuts-cuts.ensures.arrivals in
     record {
       mapped = m;
       did = mapped_did F L i j c.args.cover.now c.fill-cells.new.cover table c.take_cuts-cuts.new.table (Ok (cells, made)) m;
