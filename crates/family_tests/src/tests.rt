@@ -14,28 +14,34 @@ fn at(rank: u16, tag: u16) -> Rank {
 #[test]
 fn widths_are_two_to_five(rt: HostRuntime) {
     for width in 0..=255u8 {
-        let good = 2 <= width && width <= 5;
-        assert!(rt; Levels::new(width).is_ok() == good);
-        assert!(rt; Pins::new(width).is_ok() == good);
-        assert!(rt; Ranks::new(width).is_ok() == good);
+        let good = (2..=5).contains(&width);
+        assert_eq!(rt; Levels::new(width).is_ok(), good, "width {width}");
+        assert_eq!(rt; Pins::new(width).is_ok(), good, "width {width}");
+        assert_eq!(rt; Ranks::new(width).is_ok(), good, "width {width}");
     }
 }
 
 #[test]
 fn levels_and_pins_stop(rt: HostRuntime) -> Result<(), Fail> {
     let levels = Levels::new(5)?;
-    assert_eq!(rt; levels.result(0, 0), 1);
-    assert_eq!(rt; levels.result(65534, 5), 65535);
-    assert_eq!(rt; levels.result(65535, 5), 65535);
+    for (latest, leaves, level) in [(0, 0, 1), (65534, 5, 65535), (65535, 5, 65535)] {
+        assert_eq!(rt; levels.result(latest, leaves), level, "after {latest}");
+    }
     let pins = Pins::new(5)?;
-    assert_eq!(rt; pins.result((0, 0), 0), (1, 0));
-    assert_eq!(rt; pins.result((1, 65534), 1), (2, 65535));
-    assert_eq!(rt; pins.result((1, 65535), 1), (2, 65535));
-    assert_eq!(rt; pins.result((65534, 65535), 3), (65535, 65535));
-    assert_eq!(rt; pins.result((65534, 0), 3), (65535, 3));
-    assert_eq!(rt; pins.result((65535, 0), 0), (65535, 65535));
-    assert!(rt; pins.not_later((1, 65535), (2, 0)) && !pins.not_later((2, 0), (1, 65535)));
-    assert!(rt; pins.not_later((2, 3), (2, 3)) && !pins.not_later((2, 4), (2, 3)));
+    for (latest, leaves, arrival) in [
+        ((0, 0), 0, (1, 0)),
+        ((1, 65534), 1, (2, 65535)),
+        ((1, 65535), 1, (2, 65535)),
+        ((65534, 65535), 3, (65535, 65535)),
+        ((65534, 0), 3, (65535, 3)),
+        ((65535, 0), 0, (65535, 65535)),
+    ] {
+        assert_eq!(rt; pins.result(latest, leaves), arrival, "after {latest:?}");
+    }
+    assert!(rt; pins.not_later((1, 65535), (2, 0)));
+    assert!(rt; !pins.not_later((2, 0), (1, 65535)));
+    assert!(rt; pins.not_later((2, 3), (2, 3)));
+    assert!(rt; !pins.not_later((2, 4), (2, 3)));
     Ok(())
 }
 
