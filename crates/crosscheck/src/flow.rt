@@ -17,11 +17,17 @@ enum Spot {
     Out(u8),
 }
 
-/// A search for one more path: from which spot each other one was reached first, and the spots that it goes on from.
+/// From which spots a node was reached first, from above and from below.
+#[derive(Clone, Copy)]
+struct Reached {
+    into: Option<Spot>,
+    out_of: Option<Spot>,
+}
+
+/// A search for one more path: how each node was reached, and the spots that it goes on from.
 #[derive(Drop)]
 struct Search {
-    into: [Option<Spot>; 256],
-    out_of: [Option<Spot>; 256],
+    reached: [Reached; 256],
     queue: VecDeque<Spot>,
 }
 
@@ -29,8 +35,10 @@ impl Search {
     /// All paths begin at these nodes.
     fn new(alloc: Global, entries: &[u8]) -> Result<Search, AllocError> {
         let mut search = Search {
-            into: [None; 256],
-            out_of: [None; 256],
+            reached: [Reached {
+                into: None,
+                out_of: None,
+            }; 256],
             queue: VecDeque::with_capacity(alloc, 512)?,
         };
         for v in entries {
@@ -43,8 +51,8 @@ impl Search {
     fn origin(&self, spot: Spot) -> Option<Spot> {
         match spot {
             Spot::Top => None,
-            Spot::In(v) => self.into[v as usize],
-            Spot::Out(v) => self.out_of[v as usize],
+            Spot::In(v) => self.reached[v as usize].into,
+            Spot::Out(v) => self.reached[v as usize].out_of,
         }
     }
 
@@ -55,8 +63,8 @@ impl Search {
         }
         match spot {
             Spot::Top => {}
-            Spot::In(v) => self.into[v as usize] = Some(from),
-            Spot::Out(v) => self.out_of[v as usize] = Some(from),
+            Spot::In(v) => self.reached[v as usize].into = Some(from),
+            Spot::Out(v) => self.reached[v as usize].out_of = Some(from),
         }
         self.queue.push_back(spot)?;
         Ok(())
