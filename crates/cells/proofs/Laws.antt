@@ -12,26 +12,26 @@ use Rattle.cells.specs.declared.cell.Cell.{Cell}
 use Rattle.drawing.specs.Drawing.{most_leaves}
 use Rattle.cells.specs.Limits.{table_bits}
 use Rattle.cells.specs.Truth.{bit, table_bit, filled}
-use Rattle.cells.specs.Netlist.{Netlist, empty_netlist, with_input, with_cell, with_output, leaves_of, cell_of, plain, root_name}
+use Rattle.cells.specs.Netlist.{Netlist, netlist, empty_netlist, with_input, with_cell, with_output, leaves_of, cell_of, plain, root_name}
 use Rattle.cells.specs.Laws.{known, cell_lawful, names_after, cells_lawful, output_lawful, roots_of, names_of, numbered, lawful_cover, TablesFilled}
 use Rattle.drawing.proofs.SetLaws.{below_says}
 use Rattle.cells.proofs.Names.{named_is}
-use Rattle.cells.proofs.Tables.{table_filled, leaves_of_cell}
+use Rattle.cells.proofs.Tables.{table_filled}
 
 -- the parts of the law of a cell
 pub record CellLaws (inputs names : List ℕ) (c : Cell) : Type 0 where
-  pub few : leb c.count most_leaves ≡ true
+  pub few : leb (length (leaves_of c)) most_leaves ≡ true
   pub fresh : not (mem c.root inputs) ≡ true
   pub rising : rises 0 (leaves_of c) ≡ true
   pub leaves_known : known names (leaves_of c) ≡ true
-  pub full : filled c.count c.table ≡ true
+  pub full : filled (length (leaves_of c)) c.table ≡ true
 
 pub cell_says : (inputs names : List ℕ) (c : Cell) → cell_lawful inputs names c ≡ true → CellLaws inputs names c
 cell_says inputs names c h =
-    let p = and_parts (leb c.count most_leaves && not (mem c.root inputs) && rises 0 (leaves_of c) && known names (leaves_of c)) (filled c.count c.table) h in
-    let q = and_parts (leb c.count most_leaves && not (mem c.root inputs) && rises 0 (leaves_of c)) (known names (leaves_of c)) p.0 in
-    let r = and_parts (leb c.count most_leaves && not (mem c.root inputs)) (rises 0 (leaves_of c)) q.0 in
-    let s = and_parts (leb c.count most_leaves) (not (mem c.root inputs)) r.0 in
+    let p = and_parts (leb (length (leaves_of c)) most_leaves && not (mem c.root inputs) && rises 0 (leaves_of c) && known names (leaves_of c)) (filled (length (leaves_of c)) c.table) h in
+    let q = and_parts (leb (length (leaves_of c)) most_leaves && not (mem c.root inputs) && rises 0 (leaves_of c)) (known names (leaves_of c)) p.0 in
+    let r = and_parts (leb (length (leaves_of c)) most_leaves && not (mem c.root inputs)) (rises 0 (leaves_of c)) q.0 in
+    let s = and_parts (leb (length (leaves_of c)) most_leaves) (not (mem c.root inputs)) r.0 in
     record { few = s.0; fresh = s.1; rising = r.1; leaves_known = q.1; full = p.1 }
 
 pub says_cell : (inputs names : List ℕ) (c : Cell) → CellLaws inputs names c → cell_lawful inputs names c ≡ true
@@ -58,9 +58,13 @@ pub says_cover : (n : Netlist) → CoverLaws n → lawful_cover n ≡ true
 unfolding lawful_cover
 says_cover n l = and_from _ _ (and_from _ _ (and_from _ _ l.inputs_numbered l.roots_numbered) l.cells_lawful_lem) l.outputs_lawful
 
-pub lawful_empty : lawful_cover empty_netlist ≡ true
+lawful_empty : lawful_cover empty_netlist ≡ true
 unfolding lawful_cover
 lawful_empty = refl
+
+pub lawful_bare : (is : List ℕ) (cs : List Cell) (os : List ℕ) → is ≡ [] → cs ≡ [] → os ≡ [] → lawful_cover (netlist is cs os) ≡ true
+lawful_bare is cs os a b c =
+    ap (λ xs. lawful_cover (netlist xs cs os)) a ∙ ap (λ xs. lawful_cover (netlist [] xs os)) b ∙ ap (λ xs. lawful_cover (netlist [] [] xs)) c ∙ lawful_empty
 
 numbered_push : (xs : List ℕ) (v : ℕ) → numbered xs ≡ true → 0 < v → v < most_nodes → below v xs ≡ true → numbered (xs ++ v ∷ []) ≡ true
 numbered_push xs v h pos few b =
@@ -119,24 +123,13 @@ lawful_output n o h k =
 -- the cell of a gate keeps the law
 pub gate_lawful : (inputs names : List ℕ) (nodes : List Node) (root : ℕ) (ls : List ℕ) → length ls ≤ most_leaves → mem root inputs ≡ false → rises 0 ls ≡ true → known names ls ≡ true → cell_lawful inputs names (cell_of nodes root ls) ≡ true
 gate_lawful inputs names nodes root ls few new up k =
-    let e = leaves_of_cell nodes root ls in
     says_cell inputs names (cell_of nodes root ls) record {
       few = le-leb (length ls) most_leaves few;
       fresh = not_from_false (mem root inputs) new;
-      rising = ap (rises 0) e ∙ up;
-      leaves_known = ap (known names) e ∙ k;
+      rising = up;
+      leaves_known = k;
       full = table_filled nodes ls root few;
     }
-
--- no cell has more leaves than a cell may have
-pub cells_few : (inputs names : List ℕ) (cs : List Cell) → cells_lawful inputs names cs ≡ true → every (λ c. leb c.count most_leaves) cs ≡ true
-cells_few inputs names [] h = refl
-cells_few inputs names (c ∷ cs) h =
-    let p = and_parts (cell_lawful inputs names c) (cells_lawful inputs (root_name c ∷ names) cs) h in
-    and_from (leb c.count most_leaves) _ (cell_says inputs names c p.0).few (cells_few inputs (root_name c ∷ names) cs p.1)
-
-pub cover_few : (n : Netlist) → lawful_cover n ≡ true → every (λ c. leb c.count most_leaves) n.cells ≡ true
-cover_few n h = cells_few n.inputs (map plain n.inputs) n.cells (cover_says n h).cells_lawful_lem
 
 -- a name's number is below the most nodes
 named_below : (n : Netlist) (v : ℕ) → lawful_cover n ≡ true → mem (plain v) (names_of n) ≡ true → v < most_nodes
@@ -155,12 +148,12 @@ cover_outputs n h =
     (or_cases (eqb (node_of o) 0) (mem (plain (node_of o)) (names_of n)) (every_in (output_lawful (names_of n)) o n.outputs (cover_says n h).outputs_lawful i))))
 
 -- each cell of a lawful netlist has its table filled
-cells_filled : (inputs names : List ℕ) (cs : List Cell) (c : Cell) → cells_lawful inputs names cs ≡ true → In c cs → filled c.count c.table ≡ true
+cells_filled : (inputs names : List ℕ) (cs : List Cell) (c : Cell) → cells_lawful inputs names cs ≡ true → In c cs → filled (length (leaves_of c)) c.table ≡ true
 cells_filled inputs names [] c h i = absurd i
 cells_filled inputs names (d ∷ ds) c h i =
     let p = and_parts (cell_lawful inputs names d) (cells_lawful inputs (root_name d ∷ names) ds) h in
     ⊎_elim
-    (λ (e : d ≡ c). subst (λ (x : Cell). filled x.count x.table ≡ true) e (cell_says inputs names d p.0).full)
+    (λ (e : d ≡ c). subst (λ (x : Cell). filled (length (leaves_of x)) x.table ≡ true) e (cell_says inputs names d p.0).full)
     (λ (e : In c ds). cells_filled inputs (root_name d ∷ names) ds c p.1 e)
     i
 
@@ -168,4 +161,4 @@ pub tables_filled : TablesFilled
 unfolding filled
 tables_filled n c m h i l =
     let f = cells_filled n.inputs (map plain n.inputs) n.cells c (cover_says n h).cells_lawful_lem i in
-    eqb-true _ _ (every_in (λ k. eqb (bit c.table k) (table_bit c.count (bit c.table) k)) m (range_with_len 0 table_bits) f (in_counting 0 table_bits m (omega arith) (omega arith)))
+    eqb-true _ _ (every_in (λ k. eqb (bit c.table k) (table_bit (length (leaves_of c)) (bit c.table) k)) m (range_with_len 0 table_bits) f (in_counting 0 table_bits m (omega arith) (omega arith)))

@@ -1,5 +1,5 @@
 -- What evaluate answers and writes.
-use Rattle.std.specs.Prelude.{◌≡◌, ℕ, suc, cond, ◌&&◌, List, [], ◌∷◌, ◌++◌, length, take, drop, is_ok, Some, None, Ok, Err, Option, Result, ◌==◌, nat_le, nat_lt, slice_index}
+use Rattle.std.specs.Prelude.{◌≡◌, ℕ, cond, ◌&&◌, List, ◌++◌, length, take, drop, position, is_ok, Some, None, Ok, Err, Option, Result, ◌==◌, nat_le, nat_lt, slice_index}
 use Rattle.drawing.specs.declared.refusal.Refusal.{Refusal}
 use Rattle.drawing.specs.declared.refusal.Refusal.TheVariants.{TooShort, BadBit}
 use Rattle.drawing.specs.Drawing.{Drawing}
@@ -7,10 +7,9 @@ use Rattle.drawing.specs.Values.{output_values}
 use Rattle.cells.specs.Netlist.{Netlist, look, answers}
 use Rattle.cells.specs.Covers.{Covers}
 
--- the index of the first byte above 1, where the first byte has the index i
-abbrev pub first_above : ℕ → List ℕ → Option ℕ
-first_above i [] = None
-first_above i (b ∷ bs) = cond (nat_lt 1 b) (Some i) (first_above (suc i) bs)
+-- the index of the first byte above 1
+abbrev pub first_above : List ℕ → Option ℕ
+first_above row = position (λ b. nat_lt 1 b) row
 
 -- accepted, unless a byte of the row is above 1
 abbrev pub unless_bad : Option ℕ → Result (Unit {0}) Refusal
@@ -20,7 +19,7 @@ unless_bad (Some i) = Err (BadBit i)
 -- refused: a row that is not as long as the inputs or a buffer shorter than the outputs; then the first byte above 1
 abbrev pub evaluate_answer : Netlist → List ℕ → List ℕ → Result (Unit {0}) Refusal
 evaluate_answer n row out =
-    cond (length row == length n.inputs && nat_le (length n.outputs) (length out)) (unless_bad (first_above 0 row)) (Err TooShort)
+    cond (length row == length n.inputs && nat_le (length n.outputs) (length out)) (unless_bad (first_above row)) (Err TooShort)
 
 -- what the buffer holds then: one byte for each output, and what stood behind them; refused: what it held
 abbrev pub evaluate_writes : Netlist → List ℕ → List ℕ → List ℕ

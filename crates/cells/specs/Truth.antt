@@ -1,5 +1,5 @@
 -- The values in a cone, and the truth table of a cell.
-use Rattle.std.specs.Prelude.{ℕ, zero, suc, ◌+◌, ◌*◌, ◌/◌, ◌%◌, ◌^◌, Bool, cond, List, [], ◌∷◌, map, length, nat_eq, nat_lt, slice_index}
+use Rattle.std.specs.Prelude.{ℕ, zero, suc, ◌+◌, ◌*◌, ◌/◌, ◌%◌, ◌^◌, Bool, cond, List, [], ◌∷◌, map, length, Option, Some, None, nat_eq, nat_lt, slice_index}
 use Rattle.std.specs.List.{range_with_len}
 use Rattle.drawing.specs.declared.node.Node.{Node}
 use Rattle.drawing.specs.Sets.{every}
@@ -19,6 +19,11 @@ in_row m words = map (λ w. bit w m) words
 abbrev pub leaf_bits : List ℕ → ℕ → List (ℕ × ℕ)
 leaf_bits [] m = []
 leaf_bits (l ∷ ls) m = (l, m % 2) ∷ leaf_bits ls (m / 2)
+
+-- the value in row m of a node that may be a leaf with this word, and is d where it is none
+abbrev pub pinned : Option ℕ → ℕ → ℕ → ℕ
+pinned None m d = d
+pinned (Some w) m d = bit w m
 
 -- the value of an input that is no leaf: 0
 abbrev pub unset : ℕ → ℕ

@@ -4,12 +4,13 @@ ghost use Rattle.std.specs.Prelude.{◌≡◌, ◌≤◌, length};
 ghost use Rattle.drawing.specs.Drawing.{most_leaves};
 ghost use Rattle.cells.specs.Netlist.{leaves_of};
 
-/// The root, the leaves by rising number (`count` of them, then zeros), and the truth table.
-#[derive(Clone, Copy, Debug, PartialEq, Eq)]
+use arrayvec::ArrayVec;
+
+/// The root, the leaves by rising number, and the truth table.
+#[derive(Debug, Default, PartialEq, Eq, Drop)]
 pub struct Cell {
     pub root: u8,
-    pub count: u8,
-    pub leaves: [u8; 5],
+    pub leaves: ArrayVec<u8, 5>,
     pub table: u32,
 }
 
@@ -19,7 +20,6 @@ impl Cell {
         ensures is { result.now ≡ leaves_of self.now }
         ensures few { length result.now ≤ most_leaves }
     {
-        let count = (self.count as usize).min(self.leaves.len());
-        &self.leaves[0..count]
+        &self.leaves
     }
 }

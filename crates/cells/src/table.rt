@@ -1,17 +1,19 @@
 //! The truth table of a cell, by shifts and masks over its cone. A word has a bit for each row of the
 //! leaves' values, so that one walk over the nodes works out all rows.
 
-ghost use Rattle.std.specs.Prelude.{◌≡◌, ℕ, ◌/◌, ◌^◌, ◌<◌, ◌≤◌, true, length};
+ghost use Rattle.std.specs.Prelude.{◌≡◌, ℕ, ◌/◌, ◌^◌, ◌<◌, ◌≤◌, true, length, slice_index_or};
 ghost use Rattle.cells.specs.Limits.{table_bits};
-ghost use Rattle.drawing.specs.Drawing.{most_leaves};
+ghost use Rattle.drawing.specs.Drawing.{most_leaves, most_nodes};
 ghost use Rattle.cells.specs.Netlist.{cell_of};
-ghost use Rattle.cells.specs.Truth.{bit, cone, in_row, leaf_bits, table_bit, table_of, unset};
-ghost use Rattle.drawing.specs.Drawing.{fanins, sound};
+ghost use Rattle.cells.specs.Truth.{bit, cone, in_row, leaf_bits, pinned, table_bit, table_of, unset};
+ghost use Rattle.drawing.specs.Drawing.{fanins};
 ghost use Rattle.drawing.specs.Sets.{below};
 ghost use Rattle.drawing.specs.Values.{literal as literal_value, lookup, turned, valuing};
 
 use crate::cell::Cell;
+use arrayvec::ArrayVec;
 use drawing::node::Node;
+use drawing::nodes::Nodes;
 
 /// The rows in which leaf j has the value 1.
 const LEAF_WORDS: [u32; 5] = [
@@ -22,6 +24,16 @@ const LEAF_WORDS: [u32; 5] = [
     0xffff_0000,
 ];
 
+/// A root in a drawing, and the leaves of its cone.
+#[derive(Clone, Copy)]
+pub struct Cone<'a> {
+    pub nodes: &'a Nodes<'a>,
+    pub root: u8,
+    pub leaves: &'a [u8],
+    ghost there: { root < length nodes.now },
+    ghost few: { length leaves.now ≤ most_leaves },
+}
+
 /// The values of a literal whose node has these values.
 pub fn turn(word: u32, literal: u16) -> u32
     ensures { (m : ℕ) → m < table_bits → bit result m ≡ turned (bit word m) literal }
@@ -29,17 +41,18 @@ pub fn turn(word: u32, literal: u16) -> u32
     if literal % 2 == 0 { word } else { !word }
 }
 
-/// The values of leaf `node` in all rows, or `own` where `node` is no leaf.
-fn leaf_word(leaves: &[u8], node: u8, own: u32) -> u32
+/// For each node its values in all rows, where it is a leaf.
+fn pins(leaves: &[u8]) -> [Option<u32>; 256]
     requires { length leaves.now ≤ most_leaves }
-    ensures { (m : ℕ) → m < table_bits → bit result m ≡ lookup (leaf_bits leaves.now m) node (bit own m) }
+    ensures long { length result ≡ most_nodes }
+    ensures hides { (m node d : ℕ) → m < table_bits → pinned (slice_index_or result node None) m d ≡ lookup (leaf_bits leaves.now m) node d }
 {
-    for (j, leaf) in leaves.iter().enumerate() {
-        if *leaf == node {
-            return LEAF_WORDS[j];
-        }
+    let mut pins = [None; 256];
+    for (leaf, word) in leaves.iter().zip(&LEAF_WORDS) {
+        let node = *leaf as usize;
+        pins[node] = pins[node].or(Some(*word));
     }
-    own
+    pins
 }
 
 /// The values of a literal, by those of the nodes.
@@ -61,21 +74,6 @@ fn own_word(node: Node, words: &[u32]) -> u32
     }
 }
 
-/// The root's values in all rows: leaf j has bit j of the row's number.
-fn cone_word(nodes: &[Node], root: u8, leaves: &[u8]) -> u32
-    requires right { sound nodes.now ≡ true }
-    requires there { root < length nodes.now }
-    requires few { length leaves.now ≤ most_leaves }
-    ensures { (m : ℕ) → m < table_bits → bit result m ≡ cone nodes.now leaves.now root m }
-{
-    let mut words = [0u32; 256];
-    for n in 0..root as usize + 1 {
-        let own = own_word(nodes[n], &words[0..n]);
-        words[n] = leaf_word(leaves, n as u8, own);
-    }
-    words[root as usize]
-}
-
 /// The table of `count` leaves with these values in its rows: bits from 2^count upwards are 0.
 fn fill(word: u32, count: usize) -> u32
     requires { count ≤ most_leaves }
@@ -89,34 +87,42 @@ fn fill(word: u32, count: usize) -> u32
     }
 }
 
-/// The table of the cell with this root and these leaves: bit m is the root's value when leaf j,
-/// counted from 0 by rising number, has bit j of m, and bits from 2^n upwards are 0.
-pub fn cell_table(nodes: &[Node], root: u8, leaves: &[u8]) -> u32
-    requires right { sound nodes.now ≡ true }
-    requires there { root < length nodes.now }
-    requires few { length leaves.now ≤ most_leaves }
-    ensures is { result ≡ table_of nodes.now leaves.now root }
-    ensures rows { (m : ℕ) → m < 2 ^ length leaves.now → bit result m ≡ cone nodes.now leaves.now root m }
-    ensures above { (m : ℕ) → 2 ^ length leaves.now ≤ m → bit result m ≡ 0 }
-{
-    fill(cone_word(nodes, root, leaves), leaves.len())
-}
-
-/// The cell with this root and these leaves, its table worked out.
-pub fn cell_of(nodes: &[Node], root: u8, leaves: &[u8]) -> Cell
-    requires right { sound nodes.now ≡ true }
-    requires there { root < length nodes.now }
-    requires few { length leaves.now ≤ most_leaves }
-    ensures { result ≡ cell_of nodes.now root leaves.now }
-{
-    let mut held = [0u8; 5];
-    for j in 0..leaves.len() {
-        held[j] = leaves[j];
+impl<'a> Cone<'a> {
+    /// The root's values in all rows: leaf j has bit j of the row's number.
+    fn word(&self) -> u32
+        ensures { (m : ℕ) → m < table_bits → bit result m ≡ cone self.now.nodes.now self.now.leaves.now self.now.root m }
+    {
+        let nodes = self.nodes;
+        let up_to = &nodes.as_slice()[..=self.root as usize];
+        let pins = pins(self.leaves);
+        let mut words = [0u32; 256];
+        for (n, node) in up_to.iter().enumerate() {
+            words[n] = match pins[n] {
+                Some(word) => word,
+                None => own_word(*node, &words[..n]),
+            };
+        }
+        words[self.root as usize]
     }
-    Cell {
-        root,
-        count: leaves.len() as u8,
-        leaves: held,
-        table: cell_table(nodes, root, leaves),
+
+    /// The table of the cell with this root and these leaves: bit m is the root's value when leaf j,
+    /// counted from 0 by rising number, has bit j of m, and bits from 2^n upwards are 0.
+    pub fn table(&self) -> u32
+        ensures is { result ≡ table_of self.now.nodes.now self.now.leaves.now self.now.root }
+        ensures rows { (m : ℕ) → m < 2 ^ length self.now.leaves.now → bit result m ≡ cone self.now.nodes.now self.now.leaves.now self.now.root m }
+        ensures above { (m : ℕ) → 2 ^ length self.now.leaves.now ≤ m → bit result m ≡ 0 }
+    {
+        fill(self.word(), self.leaves.len())
+    }
+
+    /// The cell with this root and these leaves, its table worked out.
+    pub fn cell(&self) -> Cell
+        ensures { result ≡ cell_of self.now.nodes.now self.now.root self.now.leaves.now }
+    {
+        Cell {
+            root: self.root,
+            leaves: ArrayVec::try_from(self.leaves).unwrap(),
+            table: self.table(),
+        }
     }
 }

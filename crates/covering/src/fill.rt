@@ -14,6 +14,7 @@ ghost use Rattle.drawing.specs.Tables.{drawing_of};
 ghost use Rattle.drawing.specs.Values.{inputs_of};
 
 use cells::cover::Cover;
+use cells::table::Cone;
 use choice::marks::reached_by;
 use cuts::cut::Cut;
 use drawing::table::Table;
@@ -39,10 +40,16 @@ fn put_cells(table: &Table, cuts: &[Cut], marks: &[bool; 256], cover: &mut Cover
     requires bare { netlist_of cover.old ≡ netlist (inputs_of (drawing_of table.now).nodes) [] [] }
     ensures { netlist_of cover.new ≡ cover_up_to (drawing_of table.now).nodes (marked_gate (drawing_of table.now).nodes marks.now) (set_at (sets_of cuts.now)) (length (drawing_of table.now).nodes) }
 {
+    let drawn = table.sound_nodes();
     let nodes = table.nodes();
     for (v, node) in nodes.iter().enumerate() {
         if node.is_gate() && marks[v] {
-            cover.push_gate(nodes, v as u8, cuts[v].leaves());
+            let cone = Cone {
+                nodes: &drawn,
+                root: v as u8,
+                leaves: cuts[v].leaves(),
+            };
+            cover.push_gate(&cone);
         }
     }
 }

@@ -1,12 +1,12 @@
 //! What a cover answers to a row.
 
-ghost use Rattle.std.specs.Prelude.{◌≡◌, ℕ, ◌<◌, ◌≤◌, true, List, ◌++◌, map, length, drop, nat_le, nat_lt, slice_index};
+ghost use Rattle.std.specs.Prelude.{◌≡◌, ℕ, ◌<◌, ◌≤◌, true, List, [], ◌∷◌, ◌++◌, map, length, drop, nat_lt, slice_index};
 ghost use Rattle.cells.specs.Evaluate.{Agrees, evaluate_answer, evaluate_writes, first_above, Holds};
-ghost use Rattle.drawing.specs.Drawing.{most_leaves};
-ghost use Rattle.cells.specs.Netlist.{after, cell_value, output_value, plain};
+ghost use Rattle.cells.specs.Limits.{most_literals, table_bits};
+ghost use Rattle.cells.specs.Netlist.{after, output_value, plain};
 ghost use Rattle.cells.specs.Netlists.{netlist_of};
-ghost use Rattle.drawing.specs.Drawing.{most_nodes, node_of};
-ghost use Rattle.drawing.specs.Sets.{every};
+ghost use Rattle.drawing.specs.Drawing.{most_leaves, most_nodes, node_of};
+ghost use Rattle.drawing.specs.Sets.{every, rises};
 ghost use Rattle.drawing.specs.Values.{Binary, bound};
 
 use super::Cover;
@@ -14,72 +14,108 @@ use crate::cell::Cell;
 use crate::table::turn;
 use drawing::refusal::Refusal;
 
+/// The values of names, each 0 or 1 in the place of its name; nodes are named by their plain literals.
+#[derive(Drop)]
+struct Values {
+    bits: [u8; 512],
+    ghost long: { length bits ≡ most_literals },
+    ghost small: { Binary bits },
+}
+
+impl Values {
+    ghost use Rattle.cells.specs.Netlist.{cell_value, row_of};
+
+    /// No name has a value.
+    fn new() -> Values
+        ensures { Holds result.bits [] }
+    {
+        Values { bits: [0; 512] }
+    }
+
+    /// The value of a node.
+    fn of(&self, node: u8) -> u8
+        ensures { result ≡ slice_index self.now.bits (plain node) }
+    {
+        self.bits[2 * node as usize]
+    }
+
+    /// Gives a node this value.
+    fn set(&mut self, node: u8, value: u8)
+        requires { value ≤ 1 }
+        ensures { (env : List (ℕ × ℕ)) → Holds self.old.bits env → Holds self.new.bits ((plain node, value) ∷ env) }
+    {
+        self.bits[2 * node as usize] = value;
+    }
+
+    /// The row that the leaves' values make, leaf 0 being its lowest bit.
+    fn row(&self, leaves: &[u8]) -> u32
+        requires { length leaves.now ≤ most_leaves }
+        ensures is { result ≡ row_of (λ l. slice_index self.now.bits l) leaves.now }
+        ensures there { result < table_bits }
+    {
+        leaves
+            .iter()
+            .rev()
+            .fold(0, |row, leaf| (row << 1) | self.of(*leaf) as u32)
+    }
+
+    /// The bit of the cell's table that stands in its leaves' row.
+    fn cell(&self, cell: &Cell) -> u8
+        ensures is { result ≡ cell_value (λ l. slice_index self.now.bits l) cell.now }
+        ensures small { result ≤ 1 }
+    {
+        ((cell.table >> self.row(cell.leaves())) & 1) as u8
+    }
+
+    /// The value of a literal.
+    fn literal(&self, literal: u16) -> u8
+        requires { node_of literal < most_nodes }
+        ensures { result ≡ output_value (λ n. slice_index self.now.bits n) literal }
+    {
+        let value = self.of((literal / 2) as u8);
+        (turn(value as u32, literal) & 1) as u8
+    }
+}
+
 /// The index of the first byte above 1.
 fn first_above_one(row: &[u8]) -> Option<usize>
-    ensures { result ≡ first_above 0 row.now }
+    ensures { result ≡ first_above row.now }
 {
-    for (i, byte) in row.iter().enumerate() {
-        if *byte > 1 {
-            return Some(i);
-        }
-    }
-    None
+    row.iter().position(|byte| *byte > 1)
 }
 
-/// The bit of the cell's table that stands in its leaves' row.
-fn cell_value(cell: Cell, values: &[u8; 512]) -> u8
-    requires few { cell.count ≤ most_leaves }
-    requires small { Binary values.now }
-    ensures is { result ≡ cell_value (λ l. slice_index values.now l) cell }
-    ensures small { result ≤ 1 }
-{
-    let mut row = 0u32;
-    for j in (0..cell.count).rev() {
-        let leaf = cell.leaves[j as usize];
-        row = (row << 1) | values[2 * leaf as usize] as u32;
-    }
-    ((cell.table >> row) & 1) as u8
-}
-
-/// The values of the inputs under a row, each in the place of its name.
-fn bind_inputs(inputs: &[u8], row: &[u8]) -> [u8; 512]
+/// The values of the inputs under a row.
+fn bind_inputs(inputs: &[u8], row: &[u8]) -> Values
     requires long { length row.now ≡ length inputs.now }
     requires small { Binary row.now }
-    ensures holds { Holds result (bound (map plain inputs.now) row.now) }
-    ensures small { Binary result }
+    requires rising { rises 0 inputs.now ≡ true }
+    ensures { Holds result.bits (bound (map plain inputs.now) row.now) }
 {
-    let mut values = [0u8; 512];
-    // backwards, so that of two values of one name the first stays
-    for i in (0..inputs.len()).rev() {
-        values[2 * inputs[i] as usize] = row[i];
+    let mut values = Values::new();
+    for (number, value) in inputs.iter().zip(row) {
+        values.set(*number, *value);
     }
     values
 }
 
 /// Works out the cells in their order.
-fn settle_cells(cells: &[Cell], values: &mut [u8; 512])
-    requires few { every (λ c. nat_le c.count most_leaves) cells.now ≡ true }
-    requires small { Binary values.old }
-    ensures holds { (env : List (ℕ × ℕ)) → Holds values.old env → Holds values.new (after env cells.now) }
-    ensures small { Binary values.new }
+fn settle_cells(cells: &[Cell], values: &mut Values)
+    ensures { (env : List (ℕ × ℕ)) → Holds values.old.bits env → Holds values.new.bits (after env cells.now) }
 {
-    for k in 0..cells.len() {
-        let cell = cells[k];
-        values[2 * cell.root as usize] = cell_value(cell, values);
+    for cell in cells {
+        let value = values.cell(cell);
+        values.set(cell.root, value);
     }
 }
 
 /// Writes the outputs' values in front of the buffer.
-fn write_outputs(outputs: &[u16], values: &[u8; 512], out: &mut [u8])
+fn write_outputs(outputs: &[u16], values: &Values, out: &mut [u8])
     requires there { every (λ l. nat_lt (node_of l) most_nodes) outputs.now ≡ true }
-    requires small { Binary values.now }
     requires room { length outputs.now ≤ length out.old }
-    ensures { out.new ≡ map (output_value (λ n. slice_index values.now n)) outputs.now ++ drop (length outputs.now) out.old }
+    ensures { out.new ≡ map (output_value (λ n. slice_index values.now.bits n)) outputs.now ++ drop (length outputs.now) out.old }
 {
-    for k in 0..outputs.len() {
-        let literal = outputs[k];
-        let value = values[2 * (literal as usize / 2)];
-        out[k] = (turn(value as u32, literal) & 1) as u8;
+    for (k, literal) in outputs.iter().enumerate() {
+        out[k] = values.literal(*literal);
     }
 }
 

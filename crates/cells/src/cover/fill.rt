@@ -4,65 +4,61 @@
 ghost use Rattle.std.specs.Prelude.{◌≡◌, ◌<◌, ◌≤◌, true, false, [], length};
 ghost use Rattle.cells.specs.Laws.{cell_lawful, known, names_of, output_lawful, roots_of};
 ghost use Rattle.cells.specs.Limits.{most_cells, most_inputs};
-ghost use Rattle.drawing.specs.Drawing.{most_leaves};
 ghost use Rattle.cells.specs.Netlist.{cell_of, empty_netlist, with_cell, with_input, with_output};
 ghost use Rattle.cells.specs.Netlists.{netlist_of};
-ghost use Rattle.drawing.specs.Drawing.{most_outputs, sound};
+ghost use Rattle.drawing.specs.Drawing.{most_outputs};
 ghost use Rattle.drawing.specs.Sets.{below, mem, rises};
 
 use super::Cover;
 use crate::cell::Cell;
-use crate::table::cell_of;
-use drawing::node::Node;
+use crate::table::Cone;
+use arrayvec::ArrayVec;
 
 impl Cover {
     /// A cover with nothing in it.
+    #[tactic(auto, using(crate::proofs::Laws::lawful_bare))]
     pub fn new() -> Cover
         ensures { netlist_of result ≡ empty_netlist }
     {
         Cover {
-            inputs: [0; 255],
-            input_count: 0,
-            cells: [Cell {
-                root: 0,
-                count: 0,
-                leaves: [0; 5],
-                table: 0,
-            }; 255],
-            cell_count: 0,
-            outputs: [0; 64],
-            output_count: 0,
+            inputs: ArrayVec::new(),
+            cells: ArrayVec::new(),
+            outputs: ArrayVec::new(),
         }
     }
 
     /// Takes out all that the cover holds.
+    #[tactic(auto, using(crate::proofs::Laws::lawful_bare))]
     pub fn clear(&mut self)
         ensures { netlist_of self.new ≡ empty_netlist }
     {
-        self.input_count = 0;
-        self.cell_count = 0;
-        self.output_count = 0;
+        self.outputs.clear();
+        self.cells.clear();
+        self.inputs.clear();
     }
 
     /// The numbers of the inputs, rising.
     pub fn inputs(&self) -> &[u8]
-        ensures { result.now ≡ (netlist_of self.now).inputs }
+        ensures is { result.now ≡ (netlist_of self.now).inputs }
+        ensures few { length result.now ≤ most_inputs }
     {
-        &self.inputs[0..self.input_count]
+        &self.inputs
     }
 
     /// The cells, by rising root.
     pub fn cells(&self) -> &[Cell]
-        ensures { result.now ≡ (netlist_of self.now).cells }
+        ensures is { result.now ≡ (netlist_of self.now).cells }
+        ensures few { length result.now ≤ most_cells }
     {
-        &self.cells[0..self.cell_count]
+        &self.cells
     }
 
     /// The outputs' literals, in their order.
     pub fn outputs(&self) -> &[u16]
-        ensures { result.now ≡ (netlist_of self.now).outputs }
+        ensures is { result.now ≡ (netlist_of self.now).outputs }
+        ensures few { length result.now ≤ most_outputs }
     {
-        &self.outputs[0..self.output_count]
+        &self.outputs
     }
 
     /// Adds an input above the others, before any cell or output.
@@ -74,8 +70,7 @@ impl Cover {
         requires above { below number (netlist_of self.old).inputs ≡ true }
         ensures { netlist_of self.new ≡ with_input (netlist_of self.old) number }
     {
-        self.inputs[self.input_count] = number;
-        self.input_count += 1;
+        self.inputs.push(number);
     }
 
     /// Adds a cell above the others.
@@ -86,24 +81,20 @@ impl Cover {
         requires law { cell_lawful (netlist_of self.old).inputs (names_of (netlist_of self.old)) cell ≡ true }
         ensures { netlist_of self.new ≡ with_cell (netlist_of self.old) cell }
     {
-        self.cells[self.cell_count] = cell;
-        self.cell_count += 1;
+        self.cells.push(cell);
     }
 
     /// Adds the cell of a gate of the drawing above the others, its table worked out.
-    pub fn push_gate(&mut self, nodes: &[Node], root: u8, leaves: &[u8])
+    pub fn push_gate(&mut self, cone: &Cone<'_>)
         requires room { length (netlist_of self.old).cells < most_cells }
-        requires right { sound nodes.now ≡ true }
-        requires there { root < length nodes.now }
-        requires positive { 0 < root }
-        requires above { below root (roots_of (netlist_of self.old)) ≡ true }
-        requires fresh { mem root (netlist_of self.old).inputs ≡ false }
-        requires few { length leaves.now ≤ most_leaves }
-        requires rising { rises 0 leaves.now ≡ true }
-        requires known { known (names_of (netlist_of self.old)) leaves.now ≡ true }
-        ensures { netlist_of self.new ≡ with_cell (netlist_of self.old) (cell_of nodes.now root leaves.now) }
+        requires positive { 0 < cone.now.root }
+        requires above { below cone.now.root (roots_of (netlist_of self.old)) ≡ true }
+        requires fresh { mem cone.now.root (netlist_of self.old).inputs ≡ false }
+        requires rising { rises 0 cone.now.leaves.now ≡ true }
+        requires known { known (names_of (netlist_of self.old)) cone.now.leaves.now ≡ true }
+        ensures { netlist_of self.new ≡ with_cell (netlist_of self.old) (cell_of cone.now.nodes.now cone.now.root cone.now.leaves.now) }
     {
-        self.push_cell(cell_of(nodes, root, leaves));
+        self.push_cell(cone.cell());
     }
 
     /// Adds an output behind the others.
@@ -112,7 +103,6 @@ impl Cover {
         requires law { output_lawful (names_of (netlist_of self.old)) literal ≡ true }
         ensures { netlist_of self.new ≡ with_output (netlist_of self.old) literal }
     {
-        self.outputs[self.output_count] = literal;
-        self.output_count += 1;
+        self.outputs.push(literal);
     }
 }

@@ -10,6 +10,6 @@ pub returns : goal.returns
 returns c =
     let s : Cover = c.args.cover.now in
     let h = section_count_lem (netlist_of s) in
-    let a = ap length c.cells.ensures in
-    let b = ap length c.outputs.ensures in
+    let a = ap length c.cells.ensures.is in
+    let b = ap length c.outputs.ensures.is in
     record { count = omega arith; means = means (netlist_of s) s.law; stands = has_meaning (netlist_of s) s.law }

@@ -50,5 +50,5 @@ returns g c =
     let n = netlist_of c.put_outputs.new.cover in
     record {
       netlist = filled_is F L d.nodes d.outputs c.args.table.now.law c.args.width c.requires.wide.0 (sets_of c.args.cuts.now) c.requires.taken c.reached_by-marks.result c.reached_by-marks.ensures m n c.put_cells.ensures c.put_outputs.ensures;
-      count = ap length c.cells.ensures ∙ filled_count F L d.nodes d.outputs c.args.table.now.law c.args.width c.requires.wide.0 (sets_of c.args.cuts.now) c.requires.taken c.reached_by-marks.result c.reached_by-marks.ensures m n c.put_cells.ensures c.put_outputs.ensures;
+      count = ap length c.cells.ensures.is ∙ filled_count F L d.nodes d.outputs c.args.table.now.law c.args.width c.requires.wide.0 (sets_of c.args.cuts.now) c.requires.taken c.reached_by-marks.result c.reached_by-marks.ensures m n c.put_cells.ensures c.put_outputs.ensures;
     }

@@ -30,14 +30,24 @@ push_gate-requires c =
     let ls = sym (c.leaves.ensures ∙ stored_at leaves_of c.args.cuts.now v c.index-cuts-v.result (omega arith) c.index-cuts-v.is) in
     record {
       room = subst (λ (n : Netlist). length n.cells < most_cells) e (omega (arith, piece_room nodes [] most_leaves picked given right few R v here w.nodes_few, w.nodes_few));
-      right = rw c.nodes-nodes.ensures right;
-      there = omega arith;
       positive = piece_positive nodes [] most_leaves picked given right few R v here;
       above = subst (λ (n : Netlist). below v (roots_of n) ≡ true) e (piece_above nodes [] most_leaves picked given right few R v here);
       fresh = subst (λ (n : Netlist). mem v n.inputs ≡ false) e (piece_fresh nodes [] most_leaves picked given right few R v here);
-      few = subst (λ (s : List ℕ). length s ≤ most_leaves) ls (piece_few nodes [] most_leaves picked given right few R v here);
       rising = subst (λ (s : List ℕ). rises 0 s ≡ true) ls (piece_rising nodes [] most_leaves picked given right few R v here);
       known = subst (λ (n : Netlist). known (names_of n) c.leaves.result.now ≡ true) e (subst (λ (s : List ℕ). known (names_of (cover_up_to nodes picked given v)) s ≡ true) ls (piece_known nodes [] most_leaves picked given right few R v here));
+    }
+
+pub invariant_of-cone : goal.invariant_of-cone
+invariant_of-cone c =
+    let nodes = (drawing_of c.args.table.now).nodes in
+    let picked = marked_gate nodes c.args.marks.now in
+    let given = set_at (sets_of c.args.cuts.now) in
+    let v = c.loop-v.v in
+    let here = and_from _ _ (subst (λ ns. is_gate (at ns v) ≡ true) c.nodes-nodes.ensures (sym c.if-is_gate.ensures)) c.if-marks-v.true in
+    let ls = sym (c.leaves.ensures ∙ stored_at leaves_of c.args.cuts.now v c.index-cuts-v.result (omega (arith, ap length c.nodes-nodes.ensures)) c.index-cuts-v.is) in
+    record {
+      there = omega (arith, ap length c.sound_nodes-drawn.ensures, ap length c.nodes-nodes.ensures);
+      few = subst (λ (s : List ℕ). length s ≤ most_leaves) ls (piece_few nodes [] most_leaves picked given (table_says c.args.table.now).nodes_sound (le_refl most_leaves) c.requires.stands v here);
     }
 
 pub loop-v-preserved : goal.loop-v-preserved
@@ -52,7 +62,7 @@ loop-v-preserved c =
     elim c.if-is_gate.branch [
       | then-is_gate+then-marks-v w ↦
           let ls = w.leaves.ensures ∙ stored_at leaves_of c.args.cuts.now v w.index-cuts-v.result (omega arith) w.index-cuts-v.is in
-          ap netlist_of w.cover-is ∙ w.push_gate.ensures ∙ ap (λ ns. with_cell (netlist_of c.loop-v.cover) (cell_of ns v w.leaves.result.now)) e ∙ ap (λ n. with_cell n (cell_of nodes v w.leaves.result.now)) c.loop-v.invariant
+          ap netlist_of w.cover-is ∙ w.push_gate.ensures ∙ ap (λ ns. with_cell (netlist_of c.loop-v.cover) (cell_of ns v w.leaves.result.now)) c.sound_nodes-drawn.ensures ∙ ap (λ n. with_cell n (cell_of nodes v w.leaves.result.now)) c.loop-v.invariant
           ∙ ap (λ s. with_cell (cover_up_to nodes picked given v) (cell_of nodes v s)) ls
           ∙ sym (upto_more nodes picked given v (and_from _ _ (gate true w.if-is_gate.ensures) w.if-marks-v.true))
       | else-is_gate w ↦

@@ -1,11 +1,10 @@
-use Rattle.std.proofs.Common.{◌≡◌, map, length, drop}
-use Rattle.drawing.specs.Values.{Binary, bound}
+use Rattle.std.proofs.Common.{map, length, take}
+use Rattle.drawing.specs.Values.{bound}
 use Rattle.cells.specs.Netlist.{plain}
-use Rattle.cells.specs.Limits.{most_literals}
 use Rattle.cells.specs.Evaluate.{Holds}
 use Rattle.cells.proofs.cover.evaluate.bind_inputs.Given as goal
 
-abbrev pub invariant-loop-i : goal.invariant-loop-i
-invariant-loop-i l =
-    (length l.values ≡ most_literals) × Binary l.values
-    × Holds l.values (bound (drop l.i (map plain l.inputs)) (drop l.i l.row))
+-- the first inputs have their values
+abbrev pub invariant-loop-number : goal.invariant-loop-number
+invariant-loop-number l =
+    Holds l.values.bits (bound (map plain (take (length l.yielded) l.inputs)) (take (length l.yielded) l.row))
