@@ -7,7 +7,6 @@ pub mod Merge
 pub mod Unions
 pub mod Stable
 pub mod Inside
-pub mod Rows
 pub mod Noting
 pub mod Choosing
 pub mod Apart

@@ -1,8 +1,9 @@
 -- The union of two rising sets, taken from the front: what a merge does.
-use Rattle.std.proofs.Common.{◌≡◌, ℕ, zero, suc, ◌+◌, ◌<◌, ◌≤◌, Bool, true, ◌||◌, eqb, ltb, List, [], ◌∷◌, length, get_or, drop, sym, refl, ap, ◌∙◌, arith}
+use Rattle.std.proofs.Common.{◌≡◌, ℕ, ◌+◌, ◌-◌, ◌<◌, Bool, true, ◌||◌, eqb, ltb, List, [], ◌∷◌, ◌++◌, length, get_or, take, drop, sym, refl, ap, ◌∙◌, arith}
 use Rattle.std.proofs.lemmas.Bool.{and_parts, and_from, lt-ltb, cond-true}
-use Rattle.std.proofs.lemmas.List.{drop_more, drop_all}
+use Rattle.std.proofs.lemmas.List.{append_assoc, take_all}
 use Rattle.drawing.specs.Sets.{mem, rises, insert, union}
+use Rattle.cuts.specs.Merging.{Stepped}
 use Rattle.drawing.proofs.SetLaws.{same_members, rises_tail, rises_weaker, rises_union, mem_union}
 
 pub same_mem : (m n : ℕ) (s t : List ℕ) → rises m s ≡ true → rises n t ≡ true → ((u : ℕ) → mem u s ≡ mem u t) → s ≡ t
@@ -41,42 +42,61 @@ union_both x xs ys a b =
     drop_one : (p q r : Bool) → ((p || q) || (p || r)) ≡ (p || (q || r))
     drop_one p q r = grind arith
 
-pub rises_drop : (i : ℕ) (s : List ℕ) → rises 0 s ≡ true → rises 0 (drop i s) ≡ true
-rises_drop zero s r = r
-rises_drop (suc i) [] r = refl
-rises_drop (suc i) (x ∷ xs) r = rises_drop i xs (rises_weaker 0 x xs (omega arith) (rises_tail 0 x xs r))
+-- the front of two risen rows that are a prefix and what is behind it
+pub rises_front : (n : ℕ) (xs ys : List ℕ) → rises n (xs ++ ys) ≡ true → rises n xs ≡ true
+rises_front n [] ys r = refl
+rises_front n (x ∷ xs) ys r = let p = and_parts _ _ r in and_from _ _ p.0 (rises_front x xs ys p.1)
 
--- one step of a merge at i and j
-module _ (s t : List ℕ) (i j : ℕ) (a : rises 0 s ≡ true) (b : rises 0 t ≡ true) where
-  pub merge_left : i < length s → j < length t → get_or s i 0 < get_or t j 0 → union (drop i s) (drop j t) ≡ get_or s i 0 ∷ union (drop (i + 1) s) (drop j t)
-  merge_left l k h =
-      let e = drop_more s i 0 l in
-      let f = drop_more t j 0 k in
-      rw (e, f) (union_left 0 0 (get_or s i 0) (get_or t j 0) (drop (i + 1) s) (drop (j + 1) t) (rw e at (rises_drop i s a)) (rw f at (rises_drop j t b)) h)
+-- a row's first, and what is behind it
+pub first_rest : (s : List ℕ) → 0 < length s → s ≡ get_or s 0 0 ∷ take (length s - 1) (drop 1 s)
+first_rest [] l = absurd (omega arith)
+first_rest (x ∷ xs) l = ap (λ z. x ∷ z) (sym (take_all (length (x ∷ xs) - 1) xs (omega arith)))
 
-  pub merge_right : i < length s → j < length t → get_or t j 0 < get_or s i 0 → union (drop i s) (drop j t) ≡ get_or t j 0 ∷ union (drop i s) (drop (j + 1) t)
-  merge_right l k h =
-      let e = drop_more s i 0 l in
-      let f = drop_more t j 0 k in
-      rw (e, f) (union_right (get_or s i 0) (get_or t j 0) (drop (i + 1) s) (drop (j + 1) t) (rw e at (rises_drop i s a)) (rw f at (rises_drop j t b)) h)
+none_left : (t : List ℕ) → length t < 1 → t ≡ []
+none_left [] l = refl
+none_left (y ∷ ys) l = absurd (omega arith)
 
-  pub merge_both : i < length s → j < length t → get_or s i 0 ≡ get_or t j 0 → union (drop i s) (drop j t) ≡ get_or s i 0 ∷ union (drop (i + 1) s) (drop (j + 1) t)
-  merge_both l k h =
-      let e = drop_more s i 0 l in
-      let f = rw (← h) at (drop_more t j 0 k) in
-      ap (λ z. union z (drop j t)) e ∙ ap (union (get_or s i 0 ∷ drop (i + 1) s)) f
-      ∙ union_both (get_or s i 0) (drop (i + 1) s) (drop (j + 1) t) (rw e at (rises_drop i s a)) (rw f at (rises_drop j t b))
+-- one step of a merge of s with t
+module _ (s t : List ℕ) (a : rises 0 s ≡ true) (b : rises 0 t ≡ true) where
+  -- the first of s, and what is behind it
+  module _ (x : ℕ) (xs : List ℕ) (e : s ≡ x ∷ xs) where
+    rest_rises : rises 0 xs ≡ true
+    rest_rises = rises_weaker 0 x xs (omega arith) (rises_tail 0 x xs (rw e at a))
 
-  pub merge_first : i < length s → length t ≤ j → union (drop i s) (drop j t) ≡ get_or s i 0 ∷ union (drop (i + 1) s) (drop j t)
-  merge_first l k =
-      let f = drop_all j t k in
-      ap (union (drop i s)) f ∙ union_nil 0 (drop i s) (rises_drop i s a) ∙ drop_more s i 0 l
-      ∙ ap (λ z. get_or s i 0 ∷ z) (sym (ap (union (drop (i + 1) s)) f ∙ union_nil 0 (drop (i + 1) s) (rises_drop (i + 1) s a)))
+    pub step_alone : length t < 1 → Stepped s t x xs t
+    step_alone l = let f = none_left t l in record {
+      taken = rw (e, f) (union_nil 0 (x ∷ xs) (rw e at a) ∙ ap (λ z. x ∷ z) (sym (union_nil 0 xs rest_rises)));
+      rising = (rest_rises, b);
+      on = omega (arith, ap length e);
+    }
 
-  pub merge_second : length s ≤ i → j < length t → union (drop i s) (drop j t) ≡ get_or t j 0 ∷ union (drop i s) (drop (j + 1) t)
-  merge_second l k =
-      let f = drop_all i s l in
-      ap (λ z. union z (drop j t)) f ∙ drop_more t j 0 k ∙ ap (λ z. get_or t j 0 ∷ union z (drop (j + 1) t)) (sym f)
+    module _ (y : ℕ) (ys : List ℕ) (f : t ≡ y ∷ ys) where
+      pub step_less : x < y → Stepped s t x xs t
+      step_less l = record {
+        taken = rw (e, f) (union_left 0 0 x y xs ys (rw e at a) (rw f at b) l);
+        rising = (rest_rises, b);
+        on = omega (arith, ap length e);
+      }
 
-  pub merge_none : length s ≤ i → length t ≤ j → union (drop i s) (drop j t) ≡ []
-  merge_none l k = ap (λ z. union z (drop j t)) (drop_all i s l) ∙ drop_all j t k
+      behind_rises : rises 0 ys ≡ true
+      behind_rises = rises_weaker 0 y ys (omega arith) (rises_tail 0 y ys (rw f at b))
+
+      pub step_both : x ≡ y → Stepped s t x xs ys
+      step_both q = record {
+        taken = ap (λ z. union z t) e ∙ ap (union (x ∷ xs)) (f ∙ ap (λ z. z ∷ ys) (sym q)) ∙ union_both x xs ys (rw e at a) (rw (f, ← q) at b);
+        rising = (rest_rises, behind_rises);
+        on = omega (arith, ap length e, ap length f);
+      }
+
+      pub step_greater : y < x → Stepped s t y s ys
+      step_greater l = record {
+        taken = ap (λ z. union z t) e ∙ ap (union (x ∷ xs)) f ∙ union_right x y xs ys (rw e at a) (rw f at b) l ∙ ap (λ z. y ∷ union z ys) (sym e);
+        rising = (a, behind_rises);
+        on = omega (arith, ap length f);
+      }
+
+-- the leaves that a merge of s with t has taken, and the next one
+pub next_rises : (front s t a b a' b' : List ℕ) (u : ℕ) → rises 0 s ≡ true → rises 0 t ≡ true → front ++ union a b ≡ union s t → Stepped a b u a' b' → rises 0 (front ++ u ∷ []) ≡ true
+next_rises front s t a b a' b' u p q whole step =
+    let e : (front ++ u ∷ []) ++ union a' b' ≡ union s t = append_assoc front (u ∷ []) (union a' b') ∙ ap (λ z. front ++ z) (sym step.taken) ∙ whole in
+    rises_front 0 (front ++ u ∷ []) (union a' b') (ap (rises 0) e ∙ rises_union 0 s t p q)

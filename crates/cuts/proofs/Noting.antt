@@ -1,36 +1,32 @@
 -- The steps that keep what is minimal in rows of stored sets.
-use Rattle.std.proofs.Common.{◌≡◌, ℕ, ◌+◌, ◌*◌, ◌<◌, ◌≤◌, Bool, true, false, cond, not, List, [], ◌∷◌, ◌++◌, map, length, take, set, sym, refl, ap, ◌∙◌, subst, mul-le-mul_right, add-mul, one-mul, arith}
-use Rattle.std.proofs.lemmas.List.Filters.{FiltersInPlace}
-use Rattle.std.proofs.lemmas.List.{take_more_set, map-append}
+use Rattle.std.proofs.Common.{◌≡◌, ℕ, ◌+◌, ◌*◌, ◌<◌, ◌≤◌, Bool, true, false, cond, not, ◌||◌, List, [], ◌∷◌, ◌++◌, map, sym, refl, ap, ◌∙◌, mul-le-mul_right, add-mul, one-mul, arith}
+use Rattle.std.specs.List.{list_any}
+use Rattle.std.proofs.lemmas.List.{map-append}
 use Rattle.drawing.specs.Sets.{sub, keep, some}
 use Rattle.cuts.specs.Antichain.{add}
 use Rattle.cuts.proofs.Survive.{add_passed, add_new}
 
-pub keep_map : {X Y : Type 0} (f : X → Y) (p : Y → Bool) (xs : List X) → map f (keep (λ x. p (f x)) xs) ≡ keep p (map f xs)
+keep_map : {X Y : Type 0} (f : X → Y) (p : Y → Bool) (xs : List X) → map f (keep (λ x. p (f x)) xs) ≡ keep p (map f xs)
 keep_map f p [] = refl
 keep_map f p (x ∷ xs) =
     let h = keep_map f p xs in
     let q : List _ = keep (λ x. p (f x)) xs in
     elim (p (f x)) as (λ b. map f (cond b (x ∷ q) q) ≡ cond b (f x ∷ keep p (map f xs)) (keep p (map f xs))) [ true ↦ ap (λ z. f x ∷ z) h | false ↦ h ]
 
-pub keeping_at : {X : Type 0} {p : X → Bool} {xs ys zs : List X} {k j i : ℕ} → zs ≡ ys → j ≡ k → FiltersInPlace p xs ys k i → FiltersInPlace p xs zs j i
-keeping_at {p = p} {xs = xs} {ys = ys} {j = j} {i = i} e f h = subst (λ z. FiltersInPlace p xs z j i) (sym e) (subst (λ z. FiltersInPlace p xs ys z i) (sym f) h)
+-- a set of a row passes, in std's word
+some_any : {X Y : Type 0} (f : X → Y) (p : Y → Bool) (xs : List X) → some p (map f xs) ≡ list_any (λ x. p (f x)) xs
+some_any f p [] = refl
+some_any f p (x ∷ xs) = ap (λ b. p (f x) || b) (some_any f p xs)
 
-module _ {X : Type 0} (f : X → List ℕ) where
-  -- a loop that moves what passes to the front has gone over the first rows
-  pub sifted : (p : List ℕ → Bool) (xs ys : List X) (k i count : ℕ) → FiltersInPlace (λ x. p (f x)) xs ys k i → i ≡ count → map f (take k ys) ≡ keep p (map f (take count xs))
-  sifted p xs ys k i count inv e = ap (map f) inv.front ∙ keep_map f p (take i xs) ∙ ap (λ z. keep p (map f (take z xs))) e
+-- x comes to the rows
+module _ {X : Type 0} (f : X → List ℕ) (rows : List X) (x : X) where
+  pub noted_passed : list_any (λ m. sub (f m) (f x)) rows ≡ true → map f rows ≡ add (map f rows) (f x)
+  noted_passed h = sym (add_passed (map f rows) (f x) (some_any f (λ m. sub m (f x)) rows ∙ h))
 
-  -- x comes to the first rows, of which n were looked at for one inside x
-  module _ (old : List X) (count n : ℕ) (x : X) (e : n ≡ count) where
-    pub noted_passed : true ≡ some (λ m. sub m (f x)) (map f (take n old)) → map f (take count old) ≡ add (map f (take count old)) (f x)
-    noted_passed h = sym (add_passed (map f (take count old)) (f x) (ap (λ z. some (λ m. sub m (f x)) (map f (take z old))) (sym e) ∙ sym h))
-
-    -- x goes behind what is left of the rows
-    pub noted_new : false ≡ some (λ m. sub m (f x)) (map f (take n old)) → (left : List X) (stay : ℕ) → map f (take stay left) ≡ keep (λ s. not (sub (f x) s)) (map f (take count old)) → stay < length left → map f (take (stay + 1) (set left stay x)) ≡ add (map f (take count old)) (f x)
-    noted_new h left stay k l =
-        ap (map f) (take_more_set left stay x l) ∙ map-append f (take stay left) (x ∷ []) ∙ ap (λ z. z ++ f x ∷ []) k
-        ∙ sym (add_new (map f (take count old)) (f x) (ap (λ z. some (λ m. sub m (f x)) (map f (take z old))) (sym e) ∙ sym h))
+  pub noted_new : list_any (λ m. sub (f m) (f x)) rows ≡ false → map f (keep (λ m. not (sub (f x) (f m))) rows ++ x ∷ []) ≡ add (map f rows) (f x)
+  noted_new h =
+      map-append f (keep (λ m. not (sub (f x) (f m))) rows) (x ∷ []) ∙ ap (λ z. z ++ f x ∷ []) (keep_map f (λ s. not (sub (f x) s)) rows)
+      ∙ sym (add_new (map f rows) (f x) (some_any f (λ m. sub m (f x)) rows ∙ h))
 
 -- a turn of a loop over `outer` choices, each of which adds at most n rows
 pub room_more : (count i outer n rows : ℕ) → count ≤ i * n → i < outer → outer * n ≤ rows → count + n ≤ rows

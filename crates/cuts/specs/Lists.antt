@@ -1,5 +1,6 @@
 -- What it says that stored cuts are the list of a gate.
-use Rattle.std.specs.Prelude.{◌≡◌, ℕ, ◌<◌, ◌≤◌, true, List, length, take, Some, None, Option, slice_index}
+use Rattle.std.specs.Prelude.{◌≡◌, ℕ, ◌<◌, ◌≤◌, true, List, length, Some, None, Option, slice_index}
+use Rattle.arrayvec.specs.ArrayVec.{ArrayVec, array_vec_len}
 use Rattle.drawing.specs.declared.node.Node.{Node}
 use Rattle.drawing.specs.Drawing.{at, is_gate, fanins}
 use Rattle.cuts.specs.declared.cut.Cut.{Cut}
@@ -23,7 +24,7 @@ right_fanin nodes v = slice_index (fanins (at nodes v)) 1
 abbrev pub AtHand : List Node → ℕ → ℕ → List Cut → Type 0
 AtHand nodes k f rows = is_gate (at nodes f) ≡ true → Lists nodes k f rows × (length rows ≤ limit k)
 
--- the answer of making the list of v into rows: how many cuts it has, or that they are more than the limit
-abbrev pub Made : List Node → ℕ → ℕ → List Cut → Option ℕ → Type 0
-Made nodes k v rows (Some n) = (n ≤ limit k) × Lists nodes k v (take n rows)
-Made nodes k v rows None = limit k < length (least_cuts nodes k v)
+-- the answer of making the list of v: its rows, or that they are more than the limit
+abbrev pub Made : List Node → ℕ → ℕ → Option (ArrayVec Cut) → Type 0
+Made nodes k v (Some list) = (array_vec_len list ≤ limit k) × Lists nodes k v list.items
+Made nodes k v None = limit k < length (least_cuts nodes k v)

@@ -1,14 +1,12 @@
 -- One step of a merge of two sets.
-use Rattle.std.specs.Prelude.{◌≡◌, ℕ, ◌+◌, ◌<◌, ◌≤◌, List, ◌∷◌, length, drop}
-use Rattle.drawing.specs.Sets.{union}
+use Rattle.std.specs.Prelude.{◌≡◌, ℕ, ◌+◌, ◌<◌, true, List, ◌∷◌, length}
+use Rattle.drawing.specs.Sets.{rises, union}
 
--- a step of the merge of s from i on with t from j on, which gives u and goes on from p and q
-pub record Stepped (s t : List ℕ) (i j u p q : ℕ) : Type 0 where
+-- a step of the merge of s with t, which gives u and leaves s' and t'
+pub record Stepped (s t : List ℕ) (u : ℕ) (s' t' : List ℕ) : Type 0 where
   -- u is the first of the union, and the union of what is left comes behind it
-  pub taken : union (drop i s) (drop j t) ≡ u ∷ union (drop p s) (drop q t)
-  -- p is a place in s, not before i
-  pub first : (i ≤ p) × (p ≤ length s)
-  -- q is a place in t, not before j
-  pub second : (j ≤ q) × (q ≤ length t)
-  -- one of the two places went on
-  pub on : i + j < p + q
+  pub taken : union s t ≡ u ∷ union s' t'
+  -- what is left rises
+  pub rising : (rises 0 s' ≡ true) × (rises 0 t' ≡ true)
+  -- one of the two is shorter
+  pub on : length s' + length t' < length s + length t

@@ -2,6 +2,8 @@
 use Rattle.std.proofs.Common.{◌≡◌, ℕ, ◌*◌, ◌<◌, ◌≤◌, Bool, true, false, ◌||◌, eqb, ◌≢◌, List, length, get_or, drop, set, sym, refl, ap, ◌∙◌, subst, inl, inr, ⊎_elim, arith}
 use Rattle.std.proofs.lemmas.List.{length-take, get_or-set_same, get_or-set_other}
 use Rattle.std.proofs.lemmas.Bool.{and_parts, leb-true, cases_eq, eq-eqb, ne_eqb, or_right}
+use Rattle.std.specs.Prelude.{Option, Some, None, MatchOption}
+use Rattle.std.proofs.Common.{Bor}
 use Rattle.drawing.specs.declared.node.Pair.{Pair}
 use Rattle.drawing.specs.declared.node.Node.{Node}
 use Rattle.drawing.specs.declared.node.Node.TheVariants.{Gate}
@@ -21,7 +23,7 @@ use Rattle.fitter.specs.Keeping.{held_of, row_of}
 use Rattle.fitter.specs.Making.{FaninsKept}
 
 pub row_short : (k : Kept) (v : ℕ) → length (row_of k v) ≤ most_cuts
-row_short k v = omega (arith, length-take (get_or k.lens v 0) (drop (v * most_cuts) k.cuts), k.short v)
+row_short k v = k.short v
 
 module _ (j : Job) where
   abbrev pub nodes_of : List Node
@@ -66,34 +68,32 @@ module _ (j : Job) where
       pub right_at_hand : (rows : List Cut) → rows ≡ row_of j.lists (node_of p.right) → AtHand ns j.width (right_fanin ns v) rows
       right_at_hand rows e = rw (e, is, gated) (kept_at_hand (node_of p.right) (fans (node_of p.right) right_in))
 
+or_none : (a b : Bool) → b ≡ false → a ≡ (a || b)
+or_none true b h = refl
+or_none false b h = sym h
+
+-- the lent list of a gate, if it is kept
+pub list_lent : (j : Job) (v : ℕ) (r : Option (Bor (List Cut))) → MatchOption r (held_of j.lists v ≡ false) (λ l. (held_of j.lists v ≡ true) × (l.now ≡ row_of j.lists v)) → MatchOption r (is_kept j v ≡ false) (λ l. (is_kept j v ≡ true) × Lists (nodes_of j) j.width v l.now)
+list_lent j v None h = h
+list_lent j v (Some l) h = (h.0, subst (Lists (nodes_of j) j.width v) (sym h.1) ((λ s. j.listed v h.0 s), j.counted v h.0))
+
 -- one list more
-pub held_set : (held : List Bool) (v u : ℕ) → v < length held → get_or (set held v true) u false ≡ (get_or held u false || eqb u v)
-held_set held v u l =
-    ⊎_elim
-    (λ (e : u ≡ v). subst (λ z. get_or (set held v true) z false ≡ (get_or held z false || eqb z v)) (sym e) (get_or-set_same held v true false l ∙ sym (or_right (get_or held v false) (eqb v v) (eq-eqb v v refl))))
-    (λ (e : u ≢ v). get_or-set_other held v u true false e ∙ or_none (get_or held u false) (eqb u v) (ne_eqb u v e))
-    (cases_eq u v)
-  where
-    or_none : (a b : Bool) → b ≡ false → a ≡ (a || b)
-    or_none true b h = refl
-    or_none false b h = sym h
-
 module _ (j : Job) (k : Kept) (v : ℕ) (list : List Cut) (gate : is_gate (at (nodes_of j) v) ≡ true) (whole : Lists (nodes_of j) j.width v list)
-    (held : held_of k ≡ set (held_of j.lists) v true) (row : row_of k v ≡ list) (others : (u : ℕ) → (u ≡ v → ⊥) → row_of k u ≡ row_of j.lists u) where
-  old : (u : ℕ) → u ≢ v → get_or (held_of k) u false ≡ true → is_kept j u ≡ true
-  old u ne h = sym (get_or-set_other (held_of j.lists) v u true false ne) ∙ ap (λ z. get_or z u false) (sym held) ∙ h
+    (held : (u : ℕ) → held_of k u ≡ (held_of j.lists u || eqb u v)) (row : row_of k v ≡ list) (others : (u : ℕ) → (u ≡ v → ⊥) → row_of k u ≡ row_of j.lists u) where
+  old : (u : ℕ) → u ≢ v → held_of k u ≡ true → is_kept j u ≡ true
+  old u ne h = or_none (held_of j.lists u) (eqb u v) (ne_eqb u v ne) ∙ sym (held u) ∙ h
 
-  pub keep_gates : (u : ℕ) → get_or (held_of k) u false ≡ true → is_gate (at (nodes_of j) u) ≡ true
+  pub keep_gates : (u : ℕ) → held_of k u ≡ true → is_gate (at (nodes_of j) u) ≡ true
   keep_gates u h = ⊎_elim (λ (e : u ≡ v). rw e gate) (λ (e : u ≢ v). j.gates u (old u e h)) (cases_eq u v)
 
-  pub keep_listed : (u : ℕ) → get_or (held_of k) u false ≡ true → (s : List ℕ) → elem s (sets_of (row_of k u)) ≡ elem s (least_cuts (nodes_of j) j.width u)
+  pub keep_listed : (u : ℕ) → held_of k u ≡ true → (s : List ℕ) → elem s (sets_of (row_of k u)) ≡ elem s (least_cuts (nodes_of j) j.width u)
   keep_listed u h s =
       ⊎_elim
       (λ (e : u ≡ v). subst (λ z. elem s (sets_of (row_of k z)) ≡ elem s (least_cuts (nodes_of j) j.width z)) (sym e) (ap (λ z. elem s (sets_of z)) row ∙ whole.0 s))
       (λ (e : u ≢ v). ap (λ z. elem s (sets_of z)) (others u e) ∙ j.listed u (old u e h) s)
       (cases_eq u v)
 
-  pub keep_counted : (u : ℕ) → get_or (held_of k) u false ≡ true → length (row_of k u) ≡ length (least_cuts (nodes_of j) j.width u)
+  pub keep_counted : (u : ℕ) → held_of k u ≡ true → length (row_of k u) ≡ length (least_cuts (nodes_of j) j.width u)
   keep_counted u h =
       ⊎_elim
       (λ (e : u ≡ v). subst (λ z. length (row_of k z) ≡ length (least_cuts (nodes_of j) j.width z)) (sym e) (ap length row ∙ whole.1))
@@ -101,9 +101,9 @@ module _ (j : Job) (k : Kept) (v : ℕ) (list : List Cut) (gate : is_gate (at (n
       (cases_eq u v)
 
 -- a list that is kept already
-pub kept_again : (held : List Bool) (v : ℕ) → get_or held v false ≡ true → (u : ℕ) → get_or held u false ≡ (get_or held u false || eqb u v)
+pub kept_again : (held : ℕ → Bool) (v : ℕ) → held v ≡ true → (u : ℕ) → held u ≡ (held u || eqb u v)
 kept_again held v h u =
     ⊎_elim
-    (λ (e : u ≡ v). let k : get_or held u false ≡ true = rw e h in rw k refl)
-    (λ (e : u ≢ v). let n = ne_eqb u v e in elim (get_or held u false) as (λ b. b ≡ (b || eqb u v)) [ true ↦ refl | false ↦ sym n ])
+    (λ (e : u ≡ v). let k : held u ≡ true = rw e h in rw k refl)
+    (λ (e : u ≢ v). or_none (held u) (eqb u v) (ne_eqb u v e))
     (cases_eq u v)

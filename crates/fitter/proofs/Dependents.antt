@@ -1,4 +1,4 @@
--- Marking what depends on a node, by rising number, and forgetting what is marked.
+-- Marking what depends on a node, by rising number.
 use Rattle.std.proofs.Common.{◌≡◌, ℕ, zero, suc, ◌+◌, ◌<◌, ◌≤◌, Bool, true, false, not, ◌&&◌, ◌||◌, eqb, ltb, ◌≢◌, List, length, get_or, set, replicate, sym, refl, ap, ◌∙◌, ⊎_elim, arith}
 use lib.ListN.{length-replicate}
 use Rattle.std.proofs.lemmas.List.{get_or-set_same, get_or-set_other, get_or_past}
@@ -82,17 +82,6 @@ module _ (nodes : List Node) (d : sound nodes ≡ true) (g : ℕ) where
     where
       and_none : (a b : Bool) → b ≡ false → (a && b) ≡ b
       and_none a b e = grind (arith, nat_tests)
-
--- all marks were gone through
-pub forgotten : (held new marks : List Bool) (n : ℕ) → length held ≤ n → ((w : ℕ) → get_or new w false ≡ (get_or held w false && not (ltb w n && get_or marks w false))) → (w : ℕ) → get_or new w false ≡ (get_or held w false && not (get_or marks w false))
-forgotten held new marks n l h w =
-    h w ∙ ⊎_elim
-    (λ (e : w < n). ap (λ z. get_or held w false && not (z && get_or marks w false)) (lt-ltb w n e))
-    (λ (e : n ≤ w). none (get_or held w false) (ltb w n && get_or marks w false) (get_or marks w false) (get_or_past held w false (omega arith)))
-    (cases_lt w n)
-  where
-    none : (a b c : Bool) → a ≡ false → (a && not b) ≡ (a && not c)
-    none a b c e = grind (arith, nat_tests)
 
 -- one mark alone
 pub one_mark : (n g u : ℕ) → g < n → get_or (set (replicate n false) g true) u false ≡ eqb u g

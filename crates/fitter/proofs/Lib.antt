@@ -1,4 +1,3 @@
-pub mod FlatRows
 pub mod Stays
 pub mod Same
 pub mod AtHand

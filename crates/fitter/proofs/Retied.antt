@@ -28,19 +28,19 @@ pub tied : (d e : Drawing) (g : ℕ) (p : Pair) → Ok tt ≡ retie_answer d g p
 tied d e g p a is = is ∙ cond-true _ _ _ (accepted d g p a)
 
 module _ (d e : Drawing) (g : ℕ) (p : Pair) (k : ℕ) (is : e ≡ drawing (set d.nodes g (Gate p)) d.outputs) (old : lawful d ≡ true) (new : lawful e ≡ true)
-    (held after : List Bool) (marks : ℕ → Bool) (rows rows' : ℕ → List Cut)
-    (left : (u : ℕ) → get_or after u false ≡ (get_or held u false && not (marks u)))
+    (held after marks : ℕ → Bool) (rows rows' : ℕ → List Cut)
+    (left : (u : ℕ) → after u ≡ (held u && not (marks u)))
     (marked : (u : ℕ) → marks u ≡ (eqb u g || depends d.nodes g u))
-    (same : (u : ℕ) → rows' u ≡ rows u)
-    (gates : (v : ℕ) → get_or held v false ≡ true → is_gate (at d.nodes v) ≡ true) where
+    (same : (u : ℕ) → after u ≡ true → rows' u ≡ rows u)
+    (gates : (v : ℕ) → held v ≡ true → is_gate (at d.nodes v) ≡ true) where
   -- a list that is still kept was kept, and its gate is neither g nor depends on it
-  parts : (v : ℕ) → get_or after v false ≡ true → (get_or held v false ≡ true) × (v ≢ g) × (depends d.nodes g v ≡ false)
+  parts : (v : ℕ) → after v ≡ true → (held v ≡ true) × (v ≢ g) × (depends d.nodes g v ≡ false)
   parts v h =
-      let q = and_parts (get_or held v false) (not (marks v)) (sym (left v) ∙ h) in
+      let q = and_parts (held v) (not (marks v)) (sym (left v) ∙ h) in
       let r = or_parts (eqb v g) (depends d.nodes g v) (sym (marked v) ∙ not-true _ q.1) in
       (q.0, eqb-false v g r.0, r.1)
 
-  still : (v : ℕ) → get_or after v false ≡ true → (is_gate (at e.nodes v) ≡ true) × (least_cuts d.nodes k v ≡ least_cuts e.nodes k v)
+  still : (v : ℕ) → after v ≡ true → (is_gate (at e.nodes v) ≡ true) × (least_cuts d.nodes k v ≡ least_cuts e.nodes k v)
   still v h =
       let q = parts v h in
       let gate = gates v q.0 in
@@ -51,11 +51,11 @@ module _ (d e : Drawing) (g : ℕ) (p : Pair) (k : ℕ) (is : e ≡ drawing (set
         list_retie d.nodes g (Gate p) k v s t (gate_range d.nodes v gate) q.1 q.2 ∙ ap (λ z. least_cuts z k v) (sym n),
       )
 
-  pub retied_gates : (v : ℕ) → get_or after v false ≡ true → is_gate (at e.nodes v) ≡ true
+  pub retied_gates : (v : ℕ) → after v ≡ true → is_gate (at e.nodes v) ≡ true
   retied_gates v h = (still v h).0
 
-  pub retied_listed : ((v : ℕ) → get_or held v false ≡ true → (s : List ℕ) → elem s (sets_of (rows v)) ≡ elem s (least_cuts d.nodes k v)) → (v : ℕ) → get_or after v false ≡ true → (s : List ℕ) → elem s (sets_of (rows' v)) ≡ elem s (least_cuts e.nodes k v)
-  retied_listed l v h s = ap (λ z. elem s (sets_of z)) (same v) ∙ l v (parts v h).0 s ∙ ap (elem s) (still v h).1
+  pub retied_listed : ((v : ℕ) → held v ≡ true → (s : List ℕ) → elem s (sets_of (rows v)) ≡ elem s (least_cuts d.nodes k v)) → (v : ℕ) → after v ≡ true → (s : List ℕ) → elem s (sets_of (rows' v)) ≡ elem s (least_cuts e.nodes k v)
+  retied_listed l v h s = ap (λ z. elem s (sets_of z)) (same v h) ∙ l v (parts v h).0 s ∙ ap (elem s) (still v h).1
 
-  pub retied_counted : ((v : ℕ) → get_or held v false ≡ true → length (rows v) ≡ length (least_cuts d.nodes k v)) → (v : ℕ) → get_or after v false ≡ true → length (rows' v) ≡ length (least_cuts e.nodes k v)
-  retied_counted c v h = ap length (same v) ∙ c v (parts v h).0 ∙ ap length (still v h).1
+  pub retied_counted : ((v : ℕ) → held v ≡ true → length (rows v) ≡ length (least_cuts d.nodes k v)) → (v : ℕ) → after v ≡ true → length (rows' v) ≡ length (least_cuts e.nodes k v)
+  retied_counted c v h = ap length (same v h) ∙ c v (parts v h).0 ∙ ap length (still v h).1

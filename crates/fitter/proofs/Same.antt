@@ -17,13 +17,13 @@ module _ (t : Table) (w : ℕ) (l : Kept) where
   Part = is_width w ≡ true
 
   abbrev Gates : Type 0
-  Gates = (v : ℕ) → get_or (held_of l) v false ≡ true → is_gate (at (drawing_of t).nodes v) ≡ true
+  Gates = (v : ℕ) → held_of l v ≡ true → is_gate (at (drawing_of t).nodes v) ≡ true
 
   abbrev Listed : Type 0
-  Listed = (v : ℕ) → get_or (held_of l) v false ≡ true → (s : List ℕ) → elem s (sets_of (row_of l v)) ≡ elem s (least_cuts (drawing_of t).nodes w v)
+  Listed = (v : ℕ) → held_of l v ≡ true → (s : List ℕ) → elem s (sets_of (row_of l v)) ≡ elem s (least_cuts (drawing_of t).nodes w v)
 
   abbrev Counted : Type 0
-  Counted = (v : ℕ) → get_or (held_of l) v false ≡ true → length (row_of l v) ≡ length (least_cuts (drawing_of t).nodes w v)
+  Counted = (v : ℕ) → held_of l v ≡ true → length (row_of l v) ≡ length (least_cuts (drawing_of t).nodes w v)
 
   abbrev made : Part → Gates → Listed → Counted → Job
   made p g s c = record { table = t; width = w; lists = l; part = p; gates = g; listed = s; counted = c }

@@ -47,7 +47,7 @@ stays_output d e os true is = rw is (stays_same d.nodes)
 stays_output d e os false is = rw is (stays_same d.nodes)
 
 -- the laws of a job hold with another table, in which each gate stays
-pub job_stays : (j : Job) (t : Table) → Stays (drawing_of j.table).nodes (drawing_of t).nodes → (is_width j.width ≡ true) × (((v : ℕ) → get_or (held_of j.lists) v false ≡ true → is_gate (at (drawing_of t).nodes v) ≡ true) × (((v : ℕ) → get_or (held_of j.lists) v false ≡ true → (s : List ℕ) → elem s (sets_of (row_of j.lists v)) ≡ elem s (least_cuts (drawing_of t).nodes j.width v)) × (((v : ℕ) → get_or (held_of j.lists) v false ≡ true → length (row_of j.lists v) ≡ length (least_cuts (drawing_of t).nodes j.width v)))))
+pub job_stays : (j : Job) (t : Table) → Stays (drawing_of j.table).nodes (drawing_of t).nodes → (is_width j.width ≡ true) × (((v : ℕ) → held_of j.lists v ≡ true → is_gate (at (drawing_of t).nodes v) ≡ true) × (((v : ℕ) → held_of j.lists v ≡ true → (s : List ℕ) → elem s (sets_of (row_of j.lists v)) ≡ elem s (least_cuts (drawing_of t).nodes j.width v)) × (((v : ℕ) → held_of j.lists v ≡ true → length (row_of j.lists v) ≡ length (least_cuts (drawing_of t).nodes j.width v)))))
 job_stays j t stays = (
   j.part,
   (
@@ -64,12 +64,9 @@ pub unless_same : {T : Type 0} {P Q : Type 0} (r : Result T Refusal) → (P → 
 unless_same (Ok x) f u = u
 unless_same (Err e) f u = f u
 
--- a list that is not kept
-pub unkept : (held : List Bool) (n : ℕ) → held ≡ replicate n false → (v : ℕ) → get_or held v false ≡ false
-unkept held n e v = ap (λ z. get_or z v false) e ∙ none_marked n v
-
-pub nothing_kept : (held : List Bool) (n : ℕ) → held ≡ replicate n false → (v : ℕ) → get_or held v false ≡ true → ⊥
-nothing_kept held n e v h = both_ways _ (unkept held n e v) h
+-- no list is kept
+pub nothing_kept : (held : ℕ → Bool) → ((u : ℕ) → held u ≡ false) → (v : ℕ) → held v ≡ true → ⊥
+nothing_kept held none v h = both_ways _ (none v) h
 
 -- a fact holds where the answer is a refusal
 pub unless_is : {T P : Type 0} (r : Result T Refusal) (e : Refusal) → r ≡ Err e → P → Unless r P

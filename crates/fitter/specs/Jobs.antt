@@ -1,5 +1,5 @@
 -- What a job holds.
-use Rattle.std.specs.Prelude.{ℕ, Bool, false, slice_index_or}
+use Rattle.std.specs.Prelude.{ℕ, Bool}
 use Rattle.drawing.specs.Tables.{drawing_of}
 use Rattle.fitter.specs.declared.job.Job.{Job}
 use Rattle.fitter.specs.Book.{Book, book}
@@ -11,4 +11,4 @@ book_of j = book (drawing_of j.table) j.width
 
 -- the list of node v is kept
 abbrev pub is_kept : Job → ℕ → Bool
-is_kept j v = slice_index_or (held_of j.lists) v false
+is_kept j v = held_of j.lists v

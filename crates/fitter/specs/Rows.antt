@@ -1,11 +1,13 @@
--- Flat rows of cuts.
-use Rattle.std.specs.Prelude.{ℕ, ◌*◌, List, take, drop, slice_index}
-use Rattle.cuts.specs.Limits.{most_cuts}
+-- Lists of cuts by node.
+use Rattle.std.specs.Prelude.{ℕ, List, [], Some, None, Option, slice_index_or}
+use Rattle.arrayvec.specs.ArrayVec.{ArrayVec}
+use Rattle.cuts.specs.declared.cut.Cut.{Cut}
 
--- how many cuts there is room for: a row of the most cuts for each node
-abbrev pub flat_rows : ℕ
-flat_rows = 8192
+-- the list at place v, where there is one
+abbrev pub list_at : List (Option (ArrayVec Cut)) → ℕ → Option (ArrayVec Cut)
+list_at lists v = slice_index_or lists v None
 
--- row v of flat rows, where the rows have these lengths
-abbrev pub row_at : {X : Type 0} → List X → List ℕ → ℕ → List X
-row_at flat lens v = take (slice_index lens v) (drop (v * most_cuts) flat)
+-- the cuts of a list, and none where there is no list
+abbrev pub cuts_of : Option (ArrayVec Cut) → List Cut
+cuts_of None = []
+cuts_of (Some list) = list.items

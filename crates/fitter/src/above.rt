@@ -1,11 +1,13 @@
 //! Which gates depend on a gate.
 
-ghost use Rattle.std.specs.Prelude.{◌≡◌, ℕ, ◌≤◌, true, false, ◌||◌, length, get_or, ◌==◌, slice_index_or};
-ghost use Rattle.drawing.specs.Drawing.{fanins, most_nodes, sound};
+ghost use Rattle.std.specs.Prelude.{◌≡◌, ℕ, true, false, ◌||◌, length, get_or, ◌==◌, slice_index_or};
+ghost use Rattle.drawing.specs.Drawing.{fanins};
 ghost use Rattle.drawing.specs.Reach.{depends};
 ghost use Rattle.drawing.specs.Sets.{below, some};
+ghost use Rattle.drawing.specs.Tables.{drawing_of};
 
 use drawing::node::Node;
+use drawing::table::Table;
 use drawing::table::calls::MOST_NODES;
 
 /// Whether some fanin of the node is marked.
@@ -20,15 +22,13 @@ fn leads_to_marked(node: Node, marks: &[bool]) -> bool
 }
 
 /// Marks a node and every gate that depends on it: one pass by rising number.
-pub fn dependents(nodes: &[Node], of: u8) -> [bool; 256]
-    requires drawn { sound nodes.now ≡ true }
-    requires few { length nodes.now ≤ most_nodes }
-    ensures { (u : ℕ) → slice_index_or result u false ≡ (u == of || depends nodes.now of u) }
+pub fn dependents(table: &Table, of: u8) -> [bool; 256]
+    ensures { (u : ℕ) → slice_index_or result u false ≡ (u == of || depends (drawing_of table.now).nodes of u) }
 {
     let mut marks = [false; MOST_NODES];
-    marks[of as usize] = true;
-    for v in 0..nodes.len() {
-        if leads_to_marked(nodes[v], &marks) {
+    marks[usize::from(of)] = true;
+    for (v, node) in table.nodes().iter().enumerate() {
+        if leads_to_marked(*node, &marks) {
             marks[v] = true;
         }
     }

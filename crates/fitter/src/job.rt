@@ -7,7 +7,7 @@ pub mod map;
 pub mod reading;
 mod taking;
 
-ghost use Rattle.std.specs.Prelude.{◌≡◌, ℕ, true, false, List, length, slice_index_or};
+ghost use Rattle.std.specs.Prelude.{◌≡◌, ℕ, true, List, length};
 ghost use Rattle.cuts.specs.Cuts.{least_cuts};
 ghost use Rattle.cuts.specs.Leaves.{sets_of};
 ghost use Rattle.drawing.specs.Drawing.{at, is_gate};
@@ -27,7 +27,7 @@ pub struct Job {
     width: u8,
     lists: Kept,
     ghost part: { is_width width ≡ true },
-    ghost gates: { (v : ℕ) → slice_index_or (held_of lists) v false ≡ true → is_gate (at (drawing_of table).nodes v) ≡ true },
-    ghost listed: { (v : ℕ) → slice_index_or (held_of lists) v false ≡ true → (s : List ℕ) → elem s (sets_of (row_of lists v)) ≡ elem s (least_cuts (drawing_of table).nodes width v) },
-    ghost counted: { (v : ℕ) → slice_index_or (held_of lists) v false ≡ true → length (row_of lists v) ≡ length (least_cuts (drawing_of table).nodes width v) },
+    ghost gates: { (v : ℕ) → held_of lists v ≡ true → is_gate (at (drawing_of table).nodes v) ≡ true },
+    ghost listed: { (v : ℕ) → held_of lists v ≡ true → (s : List ℕ) → elem s (sets_of (row_of lists v)) ≡ elem s (least_cuts (drawing_of table).nodes width v) },
+    ghost counted: { (v : ℕ) → held_of lists v ≡ true → length (row_of lists v) ≡ length (least_cuts (drawing_of table).nodes width v) },
 }

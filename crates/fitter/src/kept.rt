@@ -2,19 +2,17 @@
 
 pub mod rows;
 
-ghost use Rattle.std.specs.Prelude.{◌≡◌, ℕ, ◌≤◌, length, slice_index};
+ghost use Rattle.std.specs.Prelude.{◌≡◌, ℕ, ◌≤◌, length};
 ghost use Rattle.cuts.specs.Limits.{most_cuts};
-ghost use Rattle.fitter.specs.Rows.{flat_rows};
+ghost use Rattle.fitter.specs.Rows.{cuts_of, list_at};
 ghost use Rattle.drawing.specs.Drawing.{most_nodes};
 
-use cuts::cut::Cut;
+use cuts::list::CutList;
 
-/// Flat rows of cuts, one row for each node: of row v the first `lens[v]` cuts count, if it is `held`.
+/// For each node its list, if it is kept.
 #[derive(Drop)]
 pub struct Kept {
-    cuts: [Cut; 8192],
-    lens: [u8; 256],
-    held: [bool; 256],
-    ghost room: { (length cuts ≡ flat_rows) × (length lens ≡ most_nodes) × (length held ≡ most_nodes) },
-    ghost short: { (v : ℕ) → slice_index lens v ≤ most_cuts },
+    lists: [Option<CutList>; 256],
+    ghost room: { length lists ≡ most_nodes },
+    ghost short: { (v : ℕ) → length (cuts_of (list_at lists v)) ≤ most_cuts },
 }

@@ -1,59 +1,45 @@
 //! Making cuts, reading them, and joining two.
 
-ghost use Rattle.std.specs.Prelude.{◌≡◌, ◌<◌, ◌≤◌, true, [], ◌∷◌, length, drop, MatchOption};
+ghost use Rattle.std.specs.Prelude.{◌≡◌, ◌<◌, ◌≤◌, true, [], ◌∷◌, ◌++◌, length, MatchOption, ◌==◌};
+ghost use Rattle.std.specs.List.{list_all, list_any};
 ghost use Rattle.cuts.specs.Leaves.{leaves_of};
 ghost use Rattle.drawing.specs.Drawing.{most_leaves};
 ghost use Rattle.cuts.specs.Merging.{Stepped};
 ghost use Rattle.drawing.specs.Sets.{rises, sub, union};
 
 use super::{Cut, MOST_LEAVES};
+use std::cmp::Ordering;
 
 /// Whether each of the leaves is among the others.
 fn subset(leaves: &[u8], others: &[u8]) -> bool
-    requires rising { (rises 0 leaves.now ≡ true) × (rises 0 others.now ≡ true) }
-    ensures { result ≡ sub leaves.now others.now }
+    ensures { result ≡ list_all (λ x. list_any (λ y. y == x) others.now) leaves.now }
 {
-    let mut found = 0;
-    for other in others {
-        if found == leaves.len() {
-            return true;
-        }
-        if leaves[found] < *other {
-            return false;
-        }
-        if leaves[found] == *other {
-            found += 1;
-        }
-    }
-    found == leaves.len()
+    leaves.iter().all(|leaf| others.contains(leaf))
 }
 
-/// A step of a merge: the leaf that comes next, and the places behind it on the left and on the right.
-#[derive(Clone, Copy)]
-struct Step(u8, usize, usize);
-
-/// The lowest of what is left of `a` from `i` on and of `b` from `j` on.
-fn lowest(a: &[u8], i: usize, b: &[u8], j: usize) -> Option<Step>
-    requires rising { (rises 0 a.now ≡ true) × (rises 0 b.now ≡ true) }
-    requires within { (i ≤ length a.now) × (j ≤ length b.now) }
-    ensures { MatchOption result (union (drop i a.now) (drop j b.now) ≡ []) (λ t. Stepped a.now b.now i j t.0 t.1 t.2) }
+/// The lowest leaf of two rows, and what is left of each behind it.
+fn lowest<'a>(a: &'a [u8], b: &'a [u8]) -> Option<(u8, &'a [u8], &'a [u8])>
+    requires { (rises 0 a.now ≡ true) × (rises 0 b.now ≡ true) }
+    ensures { MatchOption result (union a.now b.now ≡ []) (λ t. Stepped a.now b.now t.0 t.1.now t.2.now) }
 {
-    if i < a.len() {
-        if j < b.len() {
-            if a[i] < b[j] {
-                Some(Step(a[i], i + 1, j))
-            } else if b[j] < a[i] {
-                Some(Step(b[j], i, j + 1))
-            } else {
-                Some(Step(a[i], i + 1, j + 1))
-            }
-        } else {
-            Some(Step(a[i], i + 1, j))
-        }
-    } else if j < b.len() {
-        Some(Step(b[j], i, j + 1))
-    } else {
-        None
+    match (a, b) {
+        ([], []) => None,
+        ([x, more @ ..], []) => Some((*x, more, b)),
+        ([], [y, more @ ..]) => Some((*y, a, more)),
+        ([x, left @ ..], [y, right @ ..]) => Some(match x.cmp(y) {
+            Ordering::Less => (*x, left, b),
+            Ordering::Equal => (*x, left, right),
+            Ordering::Greater => (*y, a, right),
+        }),
+    }
+}
+
+impl Default for Cut {
+    ghost is_default = { λ c. leaves_of c ≡ [] };
+
+    /// No leaves.
+    fn default() -> Cut {
+        Cut::empty()
     }
 }
 
@@ -73,10 +59,9 @@ impl Cut {
         requires { 0 < v }
         ensures { leaves_of result ≡ v ∷ [] }
     {
-        Cut {
-            leaves: [v, 0, 0, 0, 0],
-            len: 1,
-        }
+        let mut cut = Cut::empty();
+        cut.push(v);
+        cut
     }
 
     /// The leaves by rising number.
@@ -98,22 +83,27 @@ impl Cut {
         requires { most ≤ most_leaves }
         ensures { MatchOption result (most < length (union (leaves_of self.now) (leaves_of other.now))) (λ c. (leaves_of c ≡ union (leaves_of self.now) (leaves_of other.now)) × (length (leaves_of c) ≤ most)) }
     {
-        let a = self.leaves();
-        let b = other.leaves();
-        let mut leaves = [0u8; MOST_LEAVES];
-        let mut len = 0;
-        let mut i = 0;
-        let mut j = 0;
-        while let Some(step) = lowest(a, i, b, j) {
-            if len == most {
+        let mut a = self.leaves();
+        let mut b = other.leaves();
+        let mut joined = Cut::empty();
+        while let Some((leaf, left, right)) = lowest(a, b) {
+            if joined.len == most {
                 return None;
             }
-            let Step(leaf, left, right) = step;
-            leaves[usize::from(len)] = leaf;
-            len += 1;
-            i = left;
-            j = right;
+            joined.push(leaf);
+            a = left;
+            b = right;
         }
-        Some(Cut { leaves, len })
+        Some(joined)
+    }
+
+    /// Adds a leaf above all the others.
+    fn push(&mut self, leaf: u8)
+        requires room { length (leaves_of self.old) < most_leaves }
+        requires above { rises 0 (leaves_of self.old ++ leaf ∷ []) ≡ true }
+        ensures { leaves_of self.new ≡ leaves_of self.old ++ leaf ∷ [] }
+    {
+        self.leaves[usize::from(self.len)] = leaf;
+        self.len += 1;
     }
 }

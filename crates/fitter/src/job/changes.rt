@@ -32,7 +32,7 @@ impl Job {
         ensures did { Did (retie_gate gate pair) self.old self.new }
         ensures refused { Unless result (self.new ≡ self.old) }
     {
-        let above = dependents(self.table.nodes(), gate);
+        let above = dependents(&self.table, gate);
         self.table.retie(gate, pair)?;
         self.lists.forget(&above);
         Ok(())

@@ -1,7 +1,6 @@
 //! Making the lists that are missing.
 
-ghost use Rattle.std.specs.Prelude.{◌≡◌, ◌<◌, ◌≤◌, true, length};
-ghost use Rattle.cuts.specs.Limits.{limit};
+ghost use Rattle.std.specs.Prelude.{◌≡◌, ◌<◌, true, length};
 ghost use Rattle.cuts.specs.Lists.{Made};
 ghost use Rattle.drawing.specs.Drawing.{at, is_gate};
 ghost use Rattle.fitter.specs.Book.{needed_in};
@@ -9,26 +8,24 @@ ghost use Rattle.fitter.specs.Jobs.{book_of};
 ghost use Rattle.fitter.specs.Making.{FaninsKept, KeptUpTo, Making, MakingAll, MakingNeeded, MarksNeeded};
 
 use super::Job;
-use cuts::cut::Cut;
-use cuts::list::{MOST_CUTS, make_list};
+use cuts::list::{CutList, make_list};
 use drawing::node::Node;
 use drawing::refusal::Refusal;
 
 impl Job {
-    /// Makes the list of a gate whose fanins have theirs, at the front of the rows.
-    fn list_of(&self, v: u8, rows: &mut [Cut]) -> Option<usize>
+    /// Makes the list of a gate whose fanins have theirs. `None` if it has too many cuts.
+    fn list_of(&self, v: u8) -> Option<CutList>
         requires gate { is_gate (at (book_of self.now).drawing.nodes v) ≡ true }
         requires fanins { FaninsKept self.now v }
-        requires room { limit self.now.width ≤ length rows.old }
-        ensures { Made (book_of self.now).drawing.nodes self.now.width v rows.new result }
+        ensures { Made (book_of self.now).drawing.nodes self.now.width v result }
     {
-        let nodes = self.table.nodes();
-        let Node::Gate(pair) = nodes[v as usize] else {
+        let nodes = self.table.sound_nodes();
+        let Node::Gate(pair) = nodes.node(usize::from(v)) else {
             unreachable()
         };
         let left = self.lists.row((pair.left / 2) as u8);
         let right = self.lists.row((pair.right / 2) as u8);
-        make_list(nodes, v, self.width, left, right, rows)
+        make_list(&nodes, v, self.width, left, right)
     }
 
     /// Makes and keeps the list of a gate whose fanins have theirs, unless it is kept. The answer is whether it was made.
@@ -40,14 +37,9 @@ impl Job {
         if self.lists.holds(v) {
             return Ok(false);
         }
-        let mut rows = [Cut::empty(); MOST_CUTS];
-        match self.list_of(v, &mut rows) {
-            Some(n) => {
-                self.lists.keep(v, &rows[0..n]);
-                Ok(true)
-            }
-            None => Err(Refusal::Crowded(v)),
-        }
+        let list = self.list_of(v).ok_or(Refusal::Crowded(v))?;
+        self.lists.keep(v, list);
+        Ok(true)
     }
 
     /// Whether node v is a needed gate.

@@ -38,10 +38,6 @@ impl Job {
     pub fn list(&self, gate: u8) -> Option<&[Cut]>
         ensures { MatchOption result (is_kept self.now gate ≡ false) (λ l. (is_kept self.now gate ≡ true) × Lists (book_of self.now).drawing.nodes self.now.width gate l.now) }
     {
-        if self.lists.holds(gate) {
-            Some(self.lists.row(gate))
-        } else {
-            None
-        }
+        self.lists.get(gate)
     }
 }

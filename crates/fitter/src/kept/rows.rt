@@ -1,87 +1,74 @@
 //! Keeping lists, lending them and forgetting them.
 
-ghost use Rattle.std.specs.Prelude.{◌≡◌, ℕ, ◌+◌, ◌*◌, ◌≤◌, true, false, not, ◌&&◌, List, length, replicate, ◌≢◌, slice_index, slice_index_or, slice_set};
+ghost use Rattle.std.specs.Prelude.{◌≡◌, ℕ, ◌≤◌, true, false, not, ◌&&◌, ◌||◌, ◌≢◌, ◌==◌, length, slice_index_or, MatchOption};
+ghost use Rattle.arrayvec.specs.ArrayVec.{array_vec_len};
 ghost use Rattle.cuts.specs.Limits.{most_cuts};
-ghost use Rattle.drawing.specs.Drawing.{most_nodes};
 ghost use Rattle.fitter.specs.Keeping.{held_of, row_of};
-ghost use Rattle.fitter.specs.Rows.{flat_rows, row_at};
 
 use super::Kept;
 use cuts::cut::Cut;
-use drawing::table::calls::MOST_NODES;
-
-/// The room for one node's list.
-const ROW: usize = 32;
-
-/// Writes a list to the front of row v of flat rows.
-fn put_row(flat: &mut [Cut], v: u8, list: &[Cut])
-    requires room { length flat.old ≡ flat_rows }
-    requires short { length list.now ≤ most_cuts }
-    ensures here { (lens : List ℕ) → slice_index lens v ≡ length list.now → row_at flat.new lens v ≡ list.now }
-    ensures others { (lens : List ℕ) (u : ℕ) → (u ≢ v) → slice_index lens u ≤ most_cuts → row_at flat.new lens u ≡ row_at flat.old lens u }
-{
-    let base = v as usize * ROW;
-    flat[base..base + list.len()].copy_from_slice(list);
-}
+use cuts::list::CutList;
 
 impl Kept {
     /// Nothing is kept.
     pub fn new() -> Kept
-        ensures { held_of result ≡ replicate most_nodes false }
+        ensures { (u : ℕ) → held_of result u ≡ false }
     {
         Kept {
-            cuts: [Cut::empty(); 8192],
-            lens: [0; 256],
-            held: [false; 256],
+            lists: Default::default(),
         }
     }
 
     /// Whether the list of node v is kept.
     pub fn holds(&self, v: u8) -> bool
-        ensures { result ≡ slice_index_or (held_of self.now) v false }
+        ensures { result ≡ held_of self.now v }
     {
-        self.held[v as usize]
+        self.lists[usize::from(v)].is_some()
     }
 
-    /// The row of node v.
+    /// The list of node v, if it is kept.
+    pub fn get(&self, v: u8) -> Option<&[Cut]>
+        ensures { MatchOption result (held_of self.now v ≡ false) (λ l. (held_of self.now v ≡ true) × (l.now ≡ row_of self.now v)) }
+    {
+        self.lists[usize::from(v)].as_ref().map(|list| list.as_slice())
+    }
+
+    /// The cuts of node v's list; no cuts if it is not kept.
     pub fn row(&self, v: u8) -> &[Cut]
         ensures { result.now ≡ row_of self.now v }
     {
-        let base = v as usize * ROW;
-        let len = self.lens[v as usize] as usize;
-        &self.cuts[base..base + len]
+        match &self.lists[usize::from(v)] {
+            Some(list) => list.as_slice(),
+            None => &[],
+        }
     }
 
     /// Keeps a list for node v.
-    pub fn keep(&mut self, v: u8, list: &[Cut])
-        requires { length list.now ≤ most_cuts }
-        ensures held { held_of self.new ≡ slice_set (held_of self.old) v true }
-        ensures row { row_of self.new v ≡ list.now }
+    pub fn keep(&mut self, v: u8, list: CutList)
+        requires { array_vec_len list ≤ most_cuts }
+        ensures held { (u : ℕ) → held_of self.new u ≡ (held_of self.old u || u == v) }
+        ensures row { row_of self.new v ≡ list.items }
         ensures others { (u : ℕ) → (u ≢ v) → row_of self.new u ≡ row_of self.old u }
     {
-        put_row(&mut self.cuts, v, list);
-        self.lens[v as usize] = list.len() as u8;
-        self.held[v as usize] = true;
+        self.lists[usize::from(v)] = Some(list);
     }
 
     /// Forgets every list.
     pub fn clear(&mut self)
-        ensures { held_of self.new ≡ replicate most_nodes false }
+        ensures { (u : ℕ) → held_of self.new u ≡ false }
     {
-        self.held = [false; 256];
+        *self = Kept::new();
     }
 
     /// Forgets the lists of the marked nodes.
     pub fn forget(&mut self, marks: &[bool; 256])
-        ensures held { (u : ℕ) → slice_index_or (held_of self.new) u false ≡ (slice_index_or (held_of self.old) u false && not (slice_index_or marks.now u false)) }
-        ensures rows { (u : ℕ) → row_of self.new u ≡ row_of self.old u }
+        ensures held { (u : ℕ) → held_of self.new u ≡ (held_of self.old u && not (slice_index_or marks.now u false)) }
+        ensures rows { (u : ℕ) → held_of self.new u ≡ true → row_of self.new u ≡ row_of self.old u }
     {
-        let mut held = self.held;
-        for u in 0..MOST_NODES {
-            if marks[u] {
-                held[u] = false;
+        for (v, marked) in marks.iter().enumerate() {
+            if *marked {
+                self.lists[v] = None;
             }
         }
-        self.held = held;
     }
 }

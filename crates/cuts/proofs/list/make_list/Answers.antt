@@ -1,31 +1,48 @@
-use Rattle.std.proofs.Common.{arith}
+use Rattle.std.proofs.Common.{◌≡◌, ap, ◌∙◌, arith}
 use Rattle.drawing.specs.declared.node.Node.TheVariants.{Gate}
+use Rattle.drawing.specs.Drawing.{at}
 use Rattle.drawing.proofs.Sound.{gate_range}
-use Rattle.cuts.proofs.Choosing.{read_at, left_fanin_lem, right_fanin_lem, at_hand, copied_list}
+use Rattle.cuts.specs.Leaves.{sets_of}
+use Rattle.cuts.proofs.Choosing.{left_below, right_below, left_fanin_lem, right_fanin_lem, at_hand, joins_listed, made_from}
 use Rattle.cuts.proofs.list.make_list.Goals as goal
 
-pub bounds : goal.bounds
-bounds c = omega (arith, gate_range c.args.nodes.now c.args.gate c.requires.tied)
-
-pub bounds-nodes-from : goal.bounds-nodes-from
-bounds-nodes-from c = omega (arith, gate_range c.args.nodes.now c.args.gate c.requires.tied)
-
-pub list_rows-count-requires : goal.list_rows-count-requires
-list_rows-count-requires c =
+pub overflow_cast-pair : goal.overflow_cast-pair
+overflow_cast-pair c =
     let nodes = c.args.nodes.now in
-    let p = c.in-Gate.pair in
-    let here = read_at nodes c.from.result c.args.gate (Gate p) c.from.ensures c.in-Gate.is in
-    record {
-      drawn = c.requires.drawn;
-      tied = (gate_range nodes c.args.gate c.requires.tied, here);
-      few = c.requires.few;
-      first = at_hand nodes c.args.width _ _ c.args.left.now (left_fanin_lem nodes c.args.gate p here) c.requires.first;
-      second = at_hand nodes c.args.width _ _ c.args.right.now (right_fanin_lem nodes c.args.gate p here) c.requires.second;
-      room = omega arith;
-    }
+    let here : at nodes c.args.gate ≡ Gate c.in-Gate.pair = rw (← c.as_slice.ensures.value, ← c.from.ensures) c.in-Gate.is in
+    omega (arith, left_below nodes c.args.gate c.in-Gate.pair c.as_slice.ensures.sound (gate_range nodes c.args.gate c.requires.tied) here)
+
+pub choices-lefts-requires-clause-inside : goal.choices-lefts-requires-clause-inside
+choices-lefts-requires-clause-inside c =
+    let nodes = c.args.nodes.now in
+    let here : at nodes c.args.gate ≡ Gate c.in-Gate.pair = rw (← c.as_slice.ensures.value, ← c.from.ensures) c.in-Gate.is in
+    let l = gate_range nodes c.args.gate c.requires.tied in
+    omega (arith, left_below nodes c.args.gate c.in-Gate.pair c.as_slice.ensures.sound l here, l)
+
+pub overflow_cast-pair-2 : goal.overflow_cast-pair-2
+overflow_cast-pair-2 c =
+    let nodes = c.args.nodes.now in
+    let here : at nodes c.args.gate ≡ Gate c.in-Gate.pair = rw (← c.as_slice.ensures.value, ← c.from.ensures) c.in-Gate.is in
+    omega (arith, right_below nodes c.args.gate c.in-Gate.pair c.as_slice.ensures.sound (gate_range nodes c.args.gate c.requires.tied) here)
+
+pub choices-rights-requires-clause-inside : goal.choices-rights-requires-clause-inside
+choices-rights-requires-clause-inside c =
+    let nodes = c.args.nodes.now in
+    let here : at nodes c.args.gate ≡ Gate c.in-Gate.pair = rw (← c.as_slice.ensures.value, ← c.from.ensures) c.in-Gate.is in
+    let l = gate_range nodes c.args.gate c.requires.tied in
+    omega (arith, right_below nodes c.args.gate c.in-Gate.pair c.as_slice.ensures.sound l here, l)
 
 pub returns : goal.returns
-returns c = (
-  omega arith,
-  copied_list c.args.nodes.now c.args.width c.args.gate c.list_rows-count.result _ c.list_rows-count.new.rows c.copy_from_slice.new.self _ (omega arith) (omega arith) c.copy_from_slice.ensures.after c.list_rows-count.ensures.made,
-)
+returns c =
+    let nodes = c.args.nodes.now in
+    let gate = c.args.gate in
+    let k = c.args.width in
+    let p = c.in-Gate.pair in
+    let here : at nodes gate ≡ Gate p = rw (← c.as_slice.ensures.value, ← c.from.ensures) c.in-Gate.is in
+    let rows = c.enumerate-rows.result.items in
+    let made = joins_listed nodes gate p c.as_slice.ensures.sound (gate_range nodes gate c.requires.tied) here k c.args.left.now c.args.right.now
+    (at_hand nodes k _ _ c.args.left.now (left_fanin_lem nodes gate p here) c.requires.first)
+    (at_hand nodes k _ _ c.args.right.now (right_fanin_lem nodes gate p here) c.requires.second)
+    (sets_of c.deref.result.now) (sets_of c.deref-2.result.now) (ap sets_of c.deref.ensures.0 ∙ c.choices-lefts.ensures.all) (ap sets_of c.deref-2.ensures.0 ∙ c.choices-rights.ensures.all)
+    rows c.enumerate-rows.ensures in
+    rw c.ok.ensures.value (made_from nodes k gate rows c.as_slice-2.result.now made c.as_slice-2.ensures.value c.try_from.result c.try_from.ensures)

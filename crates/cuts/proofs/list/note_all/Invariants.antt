@@ -1,10 +1,12 @@
 use Rattle.std.proofs.Common.{◌≡◌, ◌+◌, ◌≤◌, leb, map, length, take}
+use Rattle.arrayvec.specs.ArrayVec.{array_vec_len}
 use Rattle.drawing.specs.Sets.{keep, union}
 use Rattle.cuts.specs.Antichain.{survivors}
 use Rattle.cuts.specs.Leaves.{leaves_of, sets_of}
 use Rattle.cuts.proofs.list.note_all.Given as goal
 
 abbrev pub invariant-loop-other : goal.invariant-loop-other
-invariant-loop-other l =
-    (l.noted ≤ l.count + l.other-index)
-    × (sets_of (take l.noted l.rows) ≡ survivors (sets_of (take l.count l.initial.rows)) (keep (λ s. leb (length s) l.most) (map (union (leaves_of l.cut)) (sets_of (take l.other-index l.others)))))
+invariant-loop-other l = record {
+  more : array_vec_len l.rows ≤ array_vec_len l.initial.rows + l.other-index;
+  noted : sets_of l.rows.items ≡ survivors (sets_of l.initial.rows.items) (keep (λ s. leb (length s) l.most) (map (union (leaves_of l.cut)) (sets_of (take l.other-index l.others))));
+}

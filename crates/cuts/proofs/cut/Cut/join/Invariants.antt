@@ -1,15 +1,14 @@
-use Rattle.std.proofs.Common.{◌≡◌, ◌+◌, ◌-◌, ◌≤◌, ◌++◌, length, take, drop}
-use Rattle.drawing.specs.Sets.{union}
-use Rattle.drawing.specs.Drawing.{most_leaves}
+use Rattle.std.proofs.Common.{◌≡◌, ◌+◌, ◌≤◌, true, ◌++◌, length}
+use Rattle.drawing.specs.Sets.{rises, union}
+use Rattle.cuts.specs.Leaves.{leaves_of}
 use Rattle.cuts.proofs.cut.Cut.join.Given as goal
 
-abbrev pub invariant-loop-step : goal.invariant-loop-step
-invariant-loop-step l =
-    (l.i ≤ length l.a)
-    × (l.j ≤ length l.b)
-    × (l.len ≤ l.most)
-    × (take l.len l.leaves ++ union (drop l.i l.a) (drop l.j l.b) ≡ union l.a l.b)
-    × (length l.leaves ≡ most_leaves)
+abbrev pub invariant-loop-leaf : goal.invariant-loop-leaf
+invariant-loop-leaf l = record {
+  rising : (rises 0 l.a ≡ true) × (rises 0 l.b ≡ true);
+  few : l.joined.len ≤ l.most;
+  whole : leaves_of l.joined ++ union l.a l.b ≡ union (leaves_of l.self) (leaves_of l.other);
+}
 
-abbrev pub decreases-loop-step : goal.decreases-loop-step
-decreases-loop-step l = (length l.a + length l.b) - (l.i + l.j)
+abbrev pub decreases-loop-leaf : goal.decreases-loop-leaf
+decreases-loop-leaf l = length l.a + length l.b

@@ -29,7 +29,7 @@ invariant_of-self-2 c =
     let k = c.forget.new.self in
     let marks : ℕ → Bool = λ u. get_or c.dependents-above.result u false in
     let is = tied d (drawing_of t) g c.args.pair c.in_ok-retie.ensures.answer c.in_ok-retie.ensures.after in
-    let marked : (u : ℕ) → marks u ≡ (eqb u g || depends d.nodes g u) = λ u. c.dependents-above.ensures u ∙ ap (λ (z : List Node). eqb u g || depends z g u) c.nodes.ensures in record { part = j.part; gates = retied_gates d (drawing_of t) g c.args.pair j.width is j.table.law t.law (held_of j.lists) (held_of k) marks (row_of j.lists) (row_of k) c.forget.ensures.held marked c.forget.ensures.rows j.gates; listed = retied_listed d (drawing_of t) g c.args.pair j.width is j.table.law t.law (held_of j.lists) (held_of k) marks (row_of j.lists) (row_of k) c.forget.ensures.held marked c.forget.ensures.rows j.gates j.listed; counted = retied_counted d (drawing_of t) g c.args.pair j.width is j.table.law t.law (held_of j.lists) (held_of k) marks (row_of j.lists) (row_of k) c.forget.ensures.held marked c.forget.ensures.rows j.gates j.counted }
+    let marked : (u : ℕ) → marks u ≡ (eqb u g || depends d.nodes g u) = c.dependents-above.ensures in record { part = j.part; gates = retied_gates d (drawing_of t) g c.args.pair j.width is j.table.law t.law (held_of j.lists) (held_of k) marks (row_of j.lists) (row_of k) c.forget.ensures.held marked c.forget.ensures.rows j.gates; listed = retied_listed d (drawing_of t) g c.args.pair j.width is j.table.law t.law (held_of j.lists) (held_of k) marks (row_of j.lists) (row_of k) c.forget.ensures.held marked c.forget.ensures.rows j.gates j.listed; counted = retied_counted d (drawing_of t) g c.args.pair j.width is j.table.law t.law (held_of j.lists) (held_of k) marks (row_of j.lists) (row_of k) c.forget.ensures.held marked c.forget.ensures.rows j.gates j.counted }
 
 pub returns : goal.returns
 returns c =
@@ -42,7 +42,7 @@ returns c =
         book = ap (λ d. book d j.width) c.in_ok-retie.ensures.after;
         lists = λ u.
             c.forget.ensures.held u
-            ∙ ap (λ z. is_kept j u && not z) (c.dependents-above.ensures u ∙ ap (λ (z : List Node). eqb u g || depends z g u) c.nodes.ensures)
+            ∙ ap (λ z. is_kept j u && not z) (c.dependents-above.ensures u)
             ∙ sym (cond-true _ _ _ (ap is_ok (sym a)));
       };
       refused = tt;
@@ -57,11 +57,4 @@ returns-in_err-retie c =
       answer = p.1 ∙ ap Err p.2 ∙ e.answer;
       did = record { book = ap (λ d. book d j.width) e.after; lists = λ u. sym (cond-false _ _ _ (ap is_ok (sym e.answer))) };
       refused = unless_is c.from_residual.result p.0 p.1 (same_job _ _ e.refused refl refl);
-    }
-
-pub dependents-above-requires : goal.dependents-above-requires
-dependents-above-requires c =
-    record {
-      drawn = subst (λ (z : List Node). sound z ≡ true) (sym c.nodes.ensures) (job_sound c.args.self.now);
-      few = subst (λ (z : List Node). length z ≤ most_nodes) (sym c.nodes.ensures) (job_few c.args.self.now);
     }

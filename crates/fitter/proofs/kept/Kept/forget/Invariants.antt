@@ -1,5 +1,10 @@
-use Rattle.std.proofs.Common.{◌≡◌, ℕ, false, not, ◌&&◌, ltb, length, get_or}
+use Rattle.std.proofs.Common.{◌≡◌, ℕ, true, false, not, ◌&&◌, ltb, length, get_or}
+use Rattle.drawing.specs.Drawing.{most_nodes}
+use Rattle.fitter.specs.Keeping.{held_of, row_of}
 use Rattle.fitter.proofs.kept.Kept.forget.Given as goal
 
-abbrev pub invariant-loop-u : goal.invariant-loop-u
-invariant-loop-u l = (length l.held ≡ 256) × ((w : ℕ) → get_or l.held w false ≡ (get_or l.self.held w false && not (ltb w l.u && get_or l.marks w false)))
+abbrev pub invariant-loop-v : goal.invariant-loop-v
+invariant-loop-v l = record {
+  held : (w : ℕ) → held_of l.self w ≡ (held_of l.initial.self w && not (ltb w l.v && get_or l.marks w false));
+  rows : (w : ℕ) → held_of l.self w ≡ true → row_of l.self w ≡ row_of l.initial.self w;
+}
