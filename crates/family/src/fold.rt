@@ -63,5 +63,4 @@ pub fn fold_stands<F: Family>(family: &F)
     ensures part { PartNotLater (F.delay family.now) }
     ensures more { MoreNotEarlier (F.delay family.now) }
     ensures cell { CellNotLater (F.delay family.now) }
-{
-}
+{}
