@@ -12,5 +12,4 @@ pub fn lists_stand()
     ensures leaves { LeavesDepend }
     ensures survivors { SurvivorsAre }
     ensures apart { ListsApart }
-{
-}
+{}

@@ -1,4 +1,4 @@
-use Rattle.std.proofs.Common.{leb, length, arith}
+use Rattle.std.proofs.Common.{leb, length}
 use Rattle.arrayvec.specs.ArrayVec.{array_vec_len}
 use Rattle.cuts.specs.Limits.{most_joins}
 use Rattle.cuts.specs.Leaves.{leaves_of, sets_of}

@@ -1,7 +1,7 @@
-use Rattle.std.proofs.Common.{◌≡◌, ℕ, true, leb, List, map, length, take, ap, ◌∙◌, subst, arith}
+use Rattle.std.proofs.Common.{◌≡◌, ℕ, true, leb, List, length, ap, ◌∙◌, subst, arith}
 use Rattle.std.proofs.lemmas.Bool.{le-leb, lt-leb}
-use Rattle.drawing.specs.Sets.{keep, union}
-use Rattle.cuts.specs.Antichain.{add, survivors}
+use Rattle.drawing.specs.Sets.{union}
+use Rattle.cuts.specs.Antichain.{add}
 use Rattle.cuts.specs.Leaves.{leaves_of, sets_of}
 use Rattle.cuts.proofs.Unions.{pair_noted, pair_passed}
 use Rattle.cuts.proofs.list.note_all.Goals as goal

@@ -1,4 +1,4 @@
-use Rattle.std.proofs.Common.{◌≡◌, ◌-◌, ◌<◌, [], ◌∷◌, length, get_or, take, drop, rules, arith}
+use Rattle.std.proofs.Common.{◌-◌, ◌<◌, length, get_or, take, drop, rules}
 use Rattle.std.proofs.lemmas.Cmp.{ranked}
 use Rattle.cuts.proofs.Merge.{first_rest, step_alone, step_less, step_both, step_greater}
 use Rattle.cuts.proofs.cut.ops.lowest.Goals as goal
