@@ -1,5 +1,5 @@
 -- A gate tied anew: the lists that stay kept are still whole.
-use Rattle.std.proofs.Common.{◌≡◌, ℕ, Bool, true, false, not, ◌&&◌, ◌||◌, eqb, ◌≢◌, List, length, get_or, set, is_ok, Ok, sym, ap, ◌∙◌, subst}
+use Rattle.std.proofs.Common.{◌≡◌, ℕ, Bool, true, false, not, ◌&&◌, ◌||◌, eqb, ◌≢◌, List, length, set, is_ok, Ok, sym, ap, ◌∙◌, subst}
 use Rattle.std.proofs.lemmas.List.{get_or-set_other}
 use Rattle.std.proofs.lemmas.Bool.{and_parts, not-true, eqb-false, or_parts, cond-true}
 use Rattle.drawing.specs.declared.node.Pair.{Pair}

@@ -1,5 +1,5 @@
 -- Jobs with the same drawing, width and lists are equal: the facts of their ghost fields have one proof each.
-use Rattle.std.proofs.Common.{◌≡◌, ℕ, true, false, List, length, get_or, ap, ◌∙◌, subst}
+use Rattle.std.proofs.Common.{◌≡◌, ℕ, true, List, length, ap, ◌∙◌, subst}
 use denote.Struct.Props.{props}
 use Rattle.drawing.specs.declared.table.Table.{Table}
 use Rattle.drawing.specs.Drawing.{at, is_gate}

@@ -1,12 +1,11 @@
 -- What the calls that add to a drawing leave of each gate and its list.
-use Rattle.std.proofs.Common.{◌≡◌, ℕ, Bool, true, false, cond, List, [], ◌∷◌, ◌++◌, length, get_or, replicate, Ok, Err, Result, sym, refl, ap, ◌∙◌, subst}
+use Rattle.std.proofs.Common.{◌≡◌, ℕ, Bool, true, false, cond, List, [], ◌∷◌, ◌++◌, length, Ok, Err, Result, sym, refl, ap, ◌∙◌, subst}
 use Rattle.std.proofs.lemmas.List.{get_or_append_left}
 use Rattle.std.proofs.lemmas.Bool.{both_ways}
 use Rattle.drawing.specs.declared.node.Node.{Node}
 use Rattle.drawing.specs.declared.node.Node.TheVariants.{Constant}
 use Rattle.drawing.specs.Drawing.{Drawing, drawing, at, is_gate, sound, lawful}
 use Rattle.drawing.specs.Sets.{elem}
-use Rattle.drawing.proofs.Lists.{none_marked}
 use Rattle.drawing.proofs.Sound.{gate_range}
 use Rattle.drawing.proofs.Lawful.{lawful_says}
 use Rattle.drawing.specs.declared.refusal.Refusal.{Refusal}

@@ -30,7 +30,9 @@ impl Kept {
     pub fn get(&self, v: u8) -> Option<&[Cut]>
         ensures { MatchOption result (held_of self.now v ≡ false) (λ l. (held_of self.now v ≡ true) × (l.now ≡ row_of self.now v)) }
     {
-        self.lists[usize::from(v)].as_ref().map(|list| list.as_slice())
+        self.lists[usize::from(v)]
+            .as_ref()
+            .map(|list| list.as_slice())
     }
 
     /// The cuts of node v's list; no cuts if it is not kept.

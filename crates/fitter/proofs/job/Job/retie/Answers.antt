@@ -1,9 +1,6 @@
-use Rattle.std.proofs.Common.{◌≡◌, ℕ, ◌≤◌, Bool, true, false, not, ◌&&◌, ◌||◌, eqb, List, length, get_or, is_ok, Err, sym, refl, ap, ◌∙◌, subst}
-use Rattle.drawing.specs.Drawing.{sound, most_nodes}
-use Rattle.fitter.proofs.AtHand.{job_sound, job_few}
+use Rattle.std.proofs.Common.{◌≡◌, ℕ, Bool, false, not, ◌&&◌, ◌||◌, eqb, get_or, is_ok, Err, sym, refl, ap, ◌∙◌}
 use Rattle.std.proofs.lemmas.Result.{err_from_is_err_and}
 use Rattle.std.proofs.lemmas.Bool.{cond-true, cond-false}
-use Rattle.drawing.specs.declared.node.Node.{Node}
 use Rattle.drawing.specs.Reach.{depends}
 use Rattle.drawing.specs.Tables.{drawing_of}
 use Rattle.fitter.specs.Book.{book}

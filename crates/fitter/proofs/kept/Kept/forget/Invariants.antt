@@ -1,5 +1,4 @@
-use Rattle.std.proofs.Common.{◌≡◌, ℕ, true, false, not, ◌&&◌, ltb, length, get_or}
-use Rattle.drawing.specs.Drawing.{most_nodes}
+use Rattle.std.proofs.Common.{◌≡◌, ℕ, true, false, not, ◌&&◌, ltb, get_or}
 use Rattle.fitter.specs.Keeping.{held_of, row_of}
 use Rattle.fitter.proofs.kept.Kept.forget.Given as goal
 
