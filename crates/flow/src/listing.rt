@@ -14,6 +14,9 @@ use fitter::job::Job;
 /// The most bytes that a text may have.
 pub const MOST_BYTES: usize = 8192;
 
+/// The bytes that the programs keep for a cell list.
+pub const MOST_LIST: usize = 131_072;
+
 /// The width of the cells.
 const WIDTH: u8 = 4;
 

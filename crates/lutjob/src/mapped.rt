@@ -5,13 +5,10 @@ use crate::console::Console;
 use crate::joined::{Joined, spaced};
 use cells::cover::Cover;
 use cells::cover::evaluate::evaluate;
-use flow::listing::write_sections;
+use flow::listing::{MOST_LIST, write_sections};
 use std::fmt::Display;
 use std::io::{BufRead, Write};
 use std::{fmt, io};
-
-/// No cell list is longer.
-const MOST_LIST: usize = 131_072;
 
 /// The arrivals of all nodes.
 #[derive(Drop)]

@@ -3,16 +3,13 @@
 
 use arrayvec::ArrayVec;
 use drawing::refusal::Refusal;
-use flow::listing::{MOST_BYTES, cell_list, place};
+use flow::listing::{MOST_BYTES, MOST_LIST, cell_list, place};
 use std::io;
 use std::io::{Read, Write};
 use std::process::ExitCode;
 
 /// One byte more than a text may have: a longer text is refused by the first of them.
 const MOST_READ: usize = MOST_BYTES + 1;
-
-/// No cell list is longer.
-const MOST_LIST: usize = 131_072;
 
 fn refuse(rt: &HostRuntime, refusal: Refusal) -> io::Result<ExitCode> {
     println!(rt; "refused {} at {}", refusal.number(), place(refusal))?;
