@@ -1,5 +1,5 @@
 -- Comparing two cuts, and what is known of the cuts of a list.
-use Rattle.std.proofs.Common.{◌≡◌, ℕ, ◌+◌, ◌-◌, ◌<◌, ◌≤◌, Bool, true, List, length, get_or, take, drop, Some, refl, sym, ap, ◌∙◌, arith, length-take}
+use Rattle.std.proofs.Common.{◌≡◌, ℕ, ◌+◌, ◌-◌, ◌<◌, Bool, true, List, length, get_or, take, drop, Some, refl, sym, ap, ◌∙◌, arith, length-take}
 use Rattle.std.specs.Ordering.{is_some_and, is_lt, nat_cmp, partial_ordering_then}
 use Rattle.std.specs.Cmp.Lexicographic.{slice_partial_cmp}
 use Rattle.std.proofs.lemmas.Bool.Decides.{nat_tests}
@@ -11,7 +11,6 @@ use Rattle.drawing.proofs.Members.{every_at}
 use Rattle.drawing.proofs.Scans.{every_map}
 use Rattle.cuts.specs.declared.cut.Cut.{Cut}
 use Rattle.cuts.specs.Leaves.{leaves_of, sets_of}
-use Rattle.drawing.specs.Drawing.{most_leaves}
 use Rattle.choice.specs.Choice.{lexi, smaller}
 
 -- what `<` answers for two lists is whether the leaf at the first difference is smaller
@@ -21,10 +20,6 @@ lexi_tested = same_from_slice_cmp_tested nat_cmp is_lt lexi refl (λ _ _. refl) 
 -- and for two pairs of the number of leaves and the leaves, whether the one is smaller
 pub smaller_tested : (a b : List ℕ) → is_some_and is_lt (partial_ordering_then (Some (nat_cmp (length a) (length b))) (slice_partial_cmp (λ x y. Some (nat_cmp x y)) a b)) ≡ smaller a b
 smaller_tested a b = let e = lexi_tested a b _ refl in grind (arith, nat_tests)
-
--- a stored cut has few leaves
-pub few_leaves : (c : Cut) → length (leaves_of c) ≤ most_leaves
-few_leaves c = omega (arith, length-take c.len c.leaves, c.few)
 
 -- the sets of a list are all within n, so each behind the first is
 pub rest_within : (n : ℕ) (cuts : List Cut) (i : ℕ) (c : Cut) → every (below n) (sets_of cuts) ≡ true → i < length (take (length cuts - 1) (drop 1 cuts)) → c ≡ get_or (take (length cuts - 1) (drop 1 cuts)) i c → below n (leaves_of c) ≡ true
