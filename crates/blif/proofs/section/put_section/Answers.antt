@@ -1,4 +1,4 @@
-use Rattle.std.proofs.Common.{◌-◌, ltb, [], length, get_or, sym, ap, ◌∙◌, arith}
+use Rattle.std.proofs.Common.{◌-◌, ltb, length, get_or, sym, ap, ◌∙◌, arith}
 use Rattle.std.proofs.lemmas.Bool.{ltb-true}
 use Rattle.drawing.specs.Sets.{every}
 use Rattle.drawing.specs.Drawing.{node_of, most_nodes}
