@@ -1,5 +1,5 @@
 -- What a job has at hand for making the list of a gate, and that keeping that list leaves the job's facts.
-use Rattle.std.proofs.Common.{◌≡◌, ℕ, ◌<◌, ◌≤◌, Bool, true, false, ◌||◌, eqb, ◌≢◌, List, length, sym, refl, ap, ◌∙◌, subst, inl, inr, ⊎_elim, arith}
+use Rattle.std.proofs.Common.{◌≡◌, ℕ, ◌*◌, ◌<◌, ◌≤◌, Bool, true, false, ◌||◌, eqb, ◌≢◌, List, length, drop, length-take, sym, refl, ap, ◌∙◌, subst, inl, inr, ⊎_elim, arith}
 use Rattle.std.proofs.lemmas.Bool.{and_parts, leb-true, cases_eq, ne_eqb}
 use Rattle.std.specs.Prelude.{Option, Some, None, MatchOption}
 use Rattle.std.proofs.Common.{Bor}
@@ -20,9 +20,10 @@ use Rattle.fitter.specs.declared.kept.Kept.{Kept}
 use Rattle.fitter.specs.Jobs.{book_of, is_kept}
 use Rattle.fitter.specs.Keeping.{held_of, row_of}
 use Rattle.fitter.specs.Making.{FaninsKept}
+use Rattle.fitter.specs.Rows.{len_at}
 
 pub row_short : (k : Kept) (v : ℕ) → length (row_of k v) ≤ most_cuts
-row_short k v = k.short v
+row_short k v = omega (arith, length-take (len_at k.lens v) (drop (v * most_cuts) k.cuts), k.short v)
 
 module _ (j : Job) where
   abbrev pub nodes_of : List Node

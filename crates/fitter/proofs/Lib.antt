@@ -1,3 +1,4 @@
+pub mod FlatRows
 pub mod Stays
 pub mod Same
 pub mod AtHand

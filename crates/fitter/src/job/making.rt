@@ -38,7 +38,7 @@ impl Job {
             return Ok(false);
         }
         let list = self.list_of(v).ok_or(Refusal::Crowded(v))?;
-        self.lists.keep(v, list);
+        self.lists.keep(v, &list);
         Ok(true)
     }
 

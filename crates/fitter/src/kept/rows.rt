@@ -1,13 +1,28 @@
 //! Keeping lists, lending them and forgetting them.
 
-ghost use Rattle.std.specs.Prelude.{◌≡◌, ℕ, ◌≤◌, true, false, not, ◌&&◌, ◌||◌, ◌≢◌, ◌==◌, length, slice_index_or, MatchOption};
-ghost use Rattle.arrayvec.specs.ArrayVec.{array_vec_len};
+ghost use Rattle.std.specs.Prelude.{◌≡◌, ℕ, ◌≤◌, true, false, not, ◌&&◌, ◌||◌, ◌≢◌, ◌==◌, List, Option, length, slice_index_or, MatchOption};
 ghost use Rattle.cuts.specs.Limits.{most_cuts};
 ghost use Rattle.fitter.specs.Keeping.{held_of, row_of};
+ghost use Rattle.fitter.specs.Rows.{flat_rows, len_at, row_at};
 
 use super::Kept;
 use cuts::cut::Cut;
-use cuts::list::CutList;
+use cuts::list::MOST_CUTS;
+use drawing::table::calls::MOST_NODES;
+
+/// The cuts that there is room for: a row of the most cuts for each node.
+const FLAT: usize = MOST_NODES * MOST_CUTS;
+
+/// Writes a list to the front of row v of flat rows.
+fn put_row(flat: &mut [Cut], v: u8, list: &[Cut])
+    requires room { length flat.old ≡ flat_rows }
+    requires short { length list.now ≤ most_cuts }
+    ensures here { (lens : List (Option ℕ)) → len_at lens v ≡ length list.now → row_at flat.new lens v ≡ list.now }
+    ensures others { (lens : List (Option ℕ)) (u : ℕ) → (u ≢ v) → len_at lens u ≤ most_cuts → row_at flat.new lens u ≡ row_at flat.old lens u }
+{
+    let base = usize::from(v) * MOST_CUTS;
+    flat[base..base + list.len()].copy_from_slice(list);
+}
 
 impl Kept {
     /// Nothing is kept.
@@ -15,7 +30,8 @@ impl Kept {
         ensures { (u : ℕ) → held_of result u ≡ false }
     {
         Kept {
-            lists: Default::default(),
+            cuts: [Cut::empty(); FLAT],
+            lens: [None; MOST_NODES],
         }
     }
 
@@ -23,43 +39,41 @@ impl Kept {
     pub fn holds(&self, v: u8) -> bool
         ensures { result ≡ held_of self.now v }
     {
-        self.lists[usize::from(v)].is_some()
+        self.lens[usize::from(v)].is_some()
     }
 
     /// The list of node v, if it is kept.
     pub fn get(&self, v: u8) -> Option<&[Cut]>
         ensures { MatchOption result (held_of self.now v ≡ false) (λ l. (held_of self.now v ≡ true) × (l.now ≡ row_of self.now v)) }
     {
-        self.lists[usize::from(v)]
-            .as_ref()
-            .map(|list| list.as_slice())
+        let len = self.lens[usize::from(v)]?;
+        let base = usize::from(v) * MOST_CUTS;
+        Some(&self.cuts[base..base + usize::from(len)])
     }
 
     /// The cuts of node v's list; no cuts if it is not kept.
     pub fn row(&self, v: u8) -> &[Cut]
         ensures { result.now ≡ row_of self.now v }
     {
-        match &self.lists[usize::from(v)] {
-            Some(list) => list.as_slice(),
-            None => &[],
-        }
+        self.get(v).unwrap_or(&[])
     }
 
     /// Keeps a list for node v.
-    pub fn keep(&mut self, v: u8, list: CutList)
-        requires { array_vec_len list ≤ most_cuts }
+    pub fn keep(&mut self, v: u8, list: &[Cut])
+        requires { length list.now ≤ most_cuts }
         ensures held { (u : ℕ) → held_of self.new u ≡ (held_of self.old u || u == v) }
-        ensures row { row_of self.new v ≡ list.items }
+        ensures row { row_of self.new v ≡ list.now }
         ensures others { (u : ℕ) → (u ≢ v) → row_of self.new u ≡ row_of self.old u }
     {
-        self.lists[usize::from(v)] = Some(list);
+        put_row(&mut self.cuts, v, list);
+        self.lens[usize::from(v)] = Some(list.len() as u8);
     }
 
     /// Forgets every list.
     pub fn clear(&mut self)
         ensures { (u : ℕ) → held_of self.new u ≡ false }
     {
-        *self = Kept::new();
+        self.lens = [None; MOST_NODES];
     }
 
     /// Forgets the lists of the marked nodes.
@@ -69,7 +83,7 @@ impl Kept {
     {
         for (v, marked) in marks.iter().enumerate() {
             if *marked {
-                self.lists[v] = None;
+                self.lens[v] = None;
             }
         }
     }

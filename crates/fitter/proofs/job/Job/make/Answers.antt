@@ -12,10 +12,11 @@ invariant_of-self c =
     let k = c.keep.new.self in
     let e = c.keep.ensures in
     let list = c.in_ok-list.list in
+    let row = e.row ∙ c.deref.ensures.0 in
     let is : c.list_of.result ≡ Some list = c.ok_or.ensures.ok_part ∙ ap result_ok c.in_ok-list.was in
     let m = (subst (Made (book_of j).drawing.nodes j.width c.args.v) is c.list_of.ensures).1 in record {
       part = j.part;
-      gates = keep_gates j k c.args.v list.items c.requires.gate m e.held e.row e.others;
-      listed = keep_listed j k c.args.v list.items c.requires.gate m e.held e.row e.others;
-      counted = keep_counted j k c.args.v list.items c.requires.gate m e.held e.row e.others;
+      gates = keep_gates j k c.args.v list.items c.requires.gate m e.held row e.others;
+      listed = keep_listed j k c.args.v list.items c.requires.gate m e.held row e.others;
+      counted = keep_counted j k c.args.v list.items c.requires.gate m e.held row e.others;
     }

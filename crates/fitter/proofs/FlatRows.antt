@@ -1,0 +1,52 @@
+-- Flat rows: writing one row leaves the others.
+use Rattle.std.proofs.Common.{◌≡◌, ℕ, zero, suc, false, refl, ◌+◌, ◌-◌, ◌*◌, ◌<◌, ◌≤◌, ◌≢◌, List, [], ◌∷◌, length, get_or, take, drop, set, replicate, sym, ap, ◌∙◌, ⊎_elim, arith}
+use Rattle.std.specs.Prelude.{Option, None, is_some}
+use borrow.Rule.Slice.PartMut.{put_mid}
+use Rattle.std.proofs.lemmas.Slice.{between_is, between-put_mid, take-put_mid_below, drop-put_mid}
+use Rattle.std.proofs.lemmas.Bool.{cases_order}
+use Rattle.cuts.specs.Limits.{most_cuts}
+use Rattle.fitter.specs.Rows.{len_of, len_at, row_at}
+
+module _ {X : Type 0} (flat list part : List X) (v k : ℕ) (few : length list ≤ most_cuts) (is : part ≡ list) (same : k ≡ length list) (room : v * most_cuts + length list ≤ length flat) where
+  abbrev new : List X
+  new = put_mid (v * most_cuts) k flat part
+
+  pub row_put : (lens : List (Option ℕ)) → len_at lens v ≡ length list → row_at new lens v ≡ list
+  row_put lens e =
+      let a = v * most_cuts in
+      let p : a + length list - a ≡ length list = omega arith in
+      ap (λ n. take n (drop a new)) (e ∙ sym p) ∙ between-put_mid a k flat part (a + length list) (omega arith) (ap length is ∙ sym p) ∙ is
+
+  pub row_kept : (lens : List (Option ℕ)) (u : ℕ) → u ≢ v → len_at lens u ≤ most_cuts → row_at new lens u ≡ row_at flat lens u
+  row_kept lens u ne short =
+      let a = v * most_cuts in
+      let b = u * most_cuts in
+      let n = len_at lens u in
+      let below : u < v → row_at new lens u ≡ row_at flat lens u = λ l.
+      let q : b + n - b ≡ n = omega arith in
+      ap (λ m. take m (drop b new)) (sym q) ∙ between_is new b (b + n)
+      ∙ ap (drop b) (take-put_mid_below a k flat part (b + n) (omega arith) (omega arith))
+      ∙ sym (between_is flat b (b + n)) ∙ ap (λ m. take m (drop b flat)) q in
+      let above : v < u → row_at new lens u ≡ row_at flat lens u = λ l.
+      ap (take n) (drop-put_mid a k flat part b (omega arith) (omega arith) (ap length is ∙ sym same)) in
+      ⊎_elim (λ e. absurd (ne e)) (⊎_elim below above) (cases_order u v)
+
+-- one length changed
+pub lens_small : (lens : List (Option ℕ)) (v : ℕ) (o : Option ℕ) (u : ℕ) → ((w : ℕ) → len_at lens w ≤ most_cuts) → len_of o ≤ most_cuts → len_at (set lens v o) u ≤ most_cuts
+lens_small [] v o u h s = h u
+lens_small (x ∷ xs) zero o zero h s = s
+lens_small (x ∷ xs) zero o (suc u) h s = h (suc u)
+lens_small (x ∷ xs) (suc v) o zero h s = h 0
+lens_small (x ∷ xs) (suc v) o (suc u) h s = lens_small xs v o u (λ w. h (suc w)) s
+
+-- where no length is given
+pub none_at : (n v : ℕ) → get_or {A = Option ℕ} (replicate n None) v None ≡ None
+none_at zero v = refl
+none_at (suc n) zero = refl
+none_at (suc n) (suc v) = none_at n v
+
+pub none_held : (n v : ℕ) → is_some (get_or {A = Option ℕ} (replicate n None) v None) ≡ false
+none_held n v = ap is_some (none_at n v)
+
+pub none_small : (n v : ℕ) → len_at (replicate n None) v ≤ most_cuts
+none_small n v = rw (none_at n v) (omega arith)
