@@ -1,5 +1,5 @@
 -- The steps that keep what is minimal in rows of stored sets.
-use Rattle.std.proofs.Common.{◌≡◌, ℕ, ◌+◌, ◌*◌, ◌<◌, ◌≤◌, Bool, true, false, cond, not, ◌||◌, List, [], ◌∷◌, ◌++◌, map, sym, refl, ap, ◌∙◌, mul-le-mul_right, add-mul, one-mul, arith}
+use Rattle.std.proofs.Common.{◌≡◌, ℕ, ◌+◌, ◌*◌, ◌≤◌, Bool, true, false, cond, not, ◌||◌, List, [], ◌∷◌, ◌++◌, map, sym, refl, ap, ◌∙◌, add-mul, one-mul, arith}
 use Rattle.std.specs.List.{list_any}
 use Rattle.std.proofs.lemmas.List.{map-append}
 use Rattle.drawing.specs.Sets.{sub, keep, some}
@@ -28,9 +28,6 @@ module _ {X : Type 0} (f : X → List ℕ) (rows : List X) (x : X) where
       map-append f (keep (λ m. not (sub (f x) (f m))) rows) (x ∷ []) ∙ ap (λ z. z ++ f x ∷ []) (keep_map f (λ s. not (sub (f x) s)) rows)
       ∙ sym (add_new (map f rows) (f x) (some_any f (λ m. sub m (f x)) rows ∙ h))
 
--- a turn of a loop over `outer` choices, each of which adds at most n rows
-pub room_more : (count i outer n rows : ℕ) → count ≤ i * n → i < outer → outer * n ≤ rows → count + n ≤ rows
-room_more count i outer n rows h l r = omega (arith, add-mul i 1 n, one-mul n, mul-le-mul_right n l)
-
+-- a turn of a loop adds at most n rows
 pub count_more : (count new i n : ℕ) → count ≤ i * n → new ≤ count + n → new ≤ (i + 1) * n
 count_more count new i n h l = omega (arith, add-mul i 1 n, one-mul n)

@@ -11,7 +11,7 @@ pub const MOST_LEAVES: usize = 5;
 
 /// A cut: its leaves are the first `len` of the array, and rise from above 0.
 // an array with its count: a cut copies and never allocates, and a job holds 8,192 of them
-#[derive(Clone, Copy)]
+#[derive(Clone, Copy, Debug)]
 pub struct Cut {
     leaves: [u8; MOST_LEAVES],
     len: u8,

@@ -55,31 +55,20 @@ fn note(rows: &mut Rows, cut: Cut)
     rows.push(cut);
 }
 
-/// Notes the join of the cut with each of the others that makes at most `most` leaves.
-fn note_all(rows: &mut Rows, cut: &Cut, others: &[Cut], most: u8)
+/// Joins each choice on the left with each on the right, and notes in `rows`, which has none, the joins of at most `most` leaves.
+fn enumerate(rows: &mut Rows, left: &[Cut], right: &[Cut], most: u8)
     requires few { most ≤ most_leaves }
-    requires room { array_vec_len rows.old + length others.now ≤ most_joins }
-    ensures more { array_vec_len rows.new ≤ array_vec_len rows.old + length others.now }
-    ensures noted { sets_of rows.new.items ≡ survivors (sets_of rows.old.items) (keep (λ s. nat_le (length s) most) (map (union (leaves_of cut.now)) (sets_of others.now))) }
+    requires none { rows.old.items ≡ [] }
+    requires room { length left.now * length right.now ≤ most_joins }
+    ensures { sets_of rows.new.items ≡ survivors [] (joins most (sets_of left.now) (sets_of right.now)) }
 {
-    for other in others {
-        if let Some(both) = cut.join(other, most) {
-            note(rows, both);
+    for cut in left {
+        for other in right {
+            if let Some(both) = cut.join(other, most) {
+                note(rows, both);
+            }
         }
     }
-}
-
-/// Joins each choice on the left with each on the right: what is minimal among the joins with at most `most` leaves.
-fn enumerate(left: &[Cut], right: &[Cut], most: u8) -> Rows
-    requires few { most ≤ most_leaves }
-    requires room { length left.now * length right.now ≤ most_joins }
-    ensures { sets_of result.items ≡ survivors [] (joins most (sets_of left.now) (sets_of right.now)) }
-{
-    let mut rows = Rows::new();
-    for cut in left {
-        note_all(&mut rows, cut, right, most);
-    }
-    rows
 }
 
 /// The choices at a fanin: no leaves for node 0, the node itself for an input, the node itself and then the cuts of its
@@ -125,6 +114,7 @@ pub fn make_list(
     // a fanin is below its gate, so its number fits
     let lefts = choices(nodes, (pair.left / 2) as u8, left);
     let rights = choices(nodes, (pair.right / 2) as u8, right);
-    let rows = enumerate(&lefts, &rights, width);
+    let mut rows = Rows::new();
+    enumerate(&mut rows, &lefts, &rights, width);
     CutList::try_from(rows.as_slice()).ok()
 }

@@ -39,10 +39,10 @@ returns c =
     let k = c.args.width in
     let p = c.in-Gate.pair in
     let here : at nodes gate ≡ Gate p = rw (← c.as_slice.ensures.value, ← c.from.ensures) c.in-Gate.is in
-    let rows = c.enumerate-rows.result.items in
+    let rows = c.enumerate.new.rows.items in
     let made = joins_listed nodes gate p c.as_slice.ensures.sound (gate_range nodes gate c.requires.tied) here k c.args.left.now c.args.right.now
     (at_hand nodes k _ _ c.args.left.now (left_fanin_lem nodes gate p here) c.requires.first)
     (at_hand nodes k _ _ c.args.right.now (right_fanin_lem nodes gate p here) c.requires.second)
     (sets_of c.deref.result.now) (sets_of c.deref-2.result.now) (ap sets_of c.deref.ensures.0 ∙ c.choices-lefts.ensures.all) (ap sets_of c.deref-2.ensures.0 ∙ c.choices-rights.ensures.all)
-    rows c.enumerate-rows.ensures in
+    rows c.enumerate.ensures in
     rw c.ok.ensures.value (made_from nodes k gate rows c.as_slice-2.result.now made c.as_slice-2.ensures.value c.try_from.result c.try_from.ensures)
