@@ -1,7 +1,7 @@
 -- The union of two rising sets, taken from the front: what a merge does.
-use Rattle.std.proofs.Common.{◌≡◌, ℕ, ◌-◌, ◌<◌, Bool, true, ◌||◌, eqb, ltb, List, [], ◌∷◌, ◌++◌, length, get_or, take, drop, sym, refl, ap, ◌∙◌, arith}
+use Rattle.std.proofs.Common.{◌≡◌, ℕ, ◌-◌, ◌<◌, Bool, true, ◌||◌, eqb, ltb, List, [], ◌∷◌, length, get_or, take, drop, sym, refl, ap, ◌∙◌, arith}
 use Rattle.std.proofs.lemmas.Bool.{and_parts, and_from, lt-ltb, cond-true}
-use Rattle.std.proofs.lemmas.List.{append_assoc, take_all}
+use Rattle.std.proofs.lemmas.List.{take_all}
 use Rattle.drawing.specs.Sets.{mem, rises, insert, union}
 use Rattle.cuts.specs.Merging.{Stepped}
 use Rattle.drawing.proofs.SetLaws.{same_members, rises_tail, rises_weaker, rises_union, mem_union}
@@ -41,11 +41,6 @@ union_both x xs ys a b =
   where
     drop_one : (p q r : Bool) → ((p || q) || (p || r)) ≡ (p || (q || r))
     drop_one p q r = grind arith
-
--- the front of two risen rows that are a prefix and what is behind it
-pub rises_front : (n : ℕ) (xs ys : List ℕ) → rises n (xs ++ ys) ≡ true → rises n xs ≡ true
-rises_front n [] ys r = refl
-rises_front n (x ∷ xs) ys r = let p = and_parts _ _ r in and_from _ _ p.0 (rises_front x xs ys p.1)
 
 -- a row's first, and what is behind it
 pub first_rest : (s : List ℕ) → 0 < length s → s ≡ get_or s 0 0 ∷ take (length s - 1) (drop 1 s)
@@ -94,9 +89,3 @@ module _ (s t : List ℕ) (a : rises 0 s ≡ true) (b : rises 0 t ≡ true) wher
         rising = (a, behind_rises);
         on = omega (arith, ap length f);
       }
-
--- the leaves that a merge of s with t has taken, and the next one
-pub next_rises : (front s t a b a' b' : List ℕ) (u : ℕ) → rises 0 s ≡ true → rises 0 t ≡ true → front ++ union a b ≡ union s t → Stepped a b u a' b' → rises 0 (front ++ u ∷ []) ≡ true
-next_rises front s t a b a' b' u p q whole step =
-    let e : (front ++ u ∷ []) ++ union a' b' ≡ union s t = append_assoc front (u ∷ []) (union a' b') ∙ ap (λ z. front ++ z) (sym step.taken) ∙ whole in
-    rises_front 0 (front ++ u ∷ []) (union a' b') (ap (rises 0) e ∙ rises_union 0 s t p q)

@@ -1,6 +1,6 @@
 //! Making cuts, reading them, and joining two.
 
-ghost use Rattle.std.specs.Prelude.{◌≡◌, ◌<◌, ◌≤◌, true, [], ◌∷◌, ◌++◌, length, MatchOption, ◌==◌};
+ghost use Rattle.std.specs.Prelude.{◌≡◌, ◌<◌, ◌≤◌, true, [], ◌∷◌, length, MatchOption, ◌==◌};
 ghost use Rattle.std.specs.List.{list_all, list_any};
 ghost use Rattle.cuts.specs.Leaves.{leaves_of};
 ghost use Rattle.drawing.specs.Drawing.{most_leaves};
@@ -59,9 +59,10 @@ impl Cut {
         requires { 0 < v }
         ensures { leaves_of result ≡ v ∷ [] }
     {
-        let mut cut = Cut::empty();
-        cut.push(v);
-        cut
+        Cut {
+            leaves: [v, 0, 0, 0, 0],
+            len: 1,
+        }
     }
 
     /// The leaves by rising number.
@@ -85,25 +86,17 @@ impl Cut {
     {
         let mut a = self.leaves();
         let mut b = other.leaves();
-        let mut joined = Cut::empty();
+        let mut leaves = [0; MOST_LEAVES];
+        let mut len = 0;
         while let Some((leaf, left, right)) = lowest(a, b) {
-            if joined.len == most {
+            if len == most {
                 return None;
             }
-            joined.push(leaf);
+            leaves[usize::from(len)] = leaf;
+            len += 1;
             a = left;
             b = right;
         }
-        Some(joined)
-    }
-
-    /// Adds a leaf above all the others.
-    fn push(&mut self, leaf: u8)
-        requires room { length (leaves_of self.old) < most_leaves }
-        requires above { rises 0 (leaves_of self.old ++ leaf ∷ []) ≡ true }
-        ensures { leaves_of self.new ≡ leaves_of self.old ++ leaf ∷ [] }
-    {
-        self.leaves[usize::from(self.len)] = leaf;
-        self.len += 1;
+        Some(Cut { leaves, len })
     }
 }
