@@ -5,7 +5,7 @@ use Rattle.std.proofs.lemmas.List.{length-set, length_push, length-replicate, ge
 use Rattle.std.proofs.lemmas.Bool.{and_parts, eqb-true, ltb-true, leb-true, not-true, cases_lt}
 use Rattle.drawing.specs.declared.node.Node.{Node}
 use Rattle.drawing.specs.declared.node.Node.TheVariants.{Constant, Input, Gate}
-use Rattle.aiger.specs.declared.part.Part.TheVariants.{Inputs, Outputs, Gates}
+use Rattle.aiger.specs.declared.part.Kind.TheVariants.{Inputs, Outputs, Gates}
 use Rattle.drawing.specs.declared.refusal.Fault.{Fault}
 use Rattle.drawing.specs.Sets.{In}
 use Rattle.drawing.specs.Drawing.{Drawing, drawing, node_of, is_input, sound_at, lawful}

@@ -5,7 +5,7 @@ use Rattle.std.proofs.lemmas.List.{length-append, take_at, take-append-drop, len
 use Rattle.std.proofs.lemmas.Bool.{cases_Bool, cond-true, cond-false}
 use Rattle.drawing.specs.declared.refusal.Fault.{Fault}
 use Rattle.drawing.specs.declared.refusal.Rule.TheVariants.{Pattern, Figures, Literal}
-use Rattle.aiger.specs.declared.part.Part.{Part}
+use Rattle.aiger.specs.declared.part.Kind.{Kind}
 use Rattle.aiger.specs.Text.{word}
 use Rattle.aiger.specs.Reads.{Act, Digit, Space, Newline, Stop, act, Scan, broken, whole, scan, Sheet, width, fits, add, headed, Outcome, fault, after, read_lines, read_word, read}
 use Rattle.aiger.specs.Laws.{BreaksForGood, EndsEarly}
@@ -121,7 +121,7 @@ module _ (s : List ℕ → Scan) (pos ln : ℕ) (ok : List ℕ → Bool) (g f : 
       (λ (t : ok ns ≡ false). absurd (not_pattern f g (sym (cond-false _ _ _ t) ∙ e) is other))
       (cases_Bool (ok ns))
 
-lines_halt : (ps : List Part) (sh : Sheet) (ln pos : ℕ) (bs : List ℕ) (f : Fault) → f.rule ≡ Pattern → read_lines ps sh ln pos bs ≡ Err f → f.byte < pos + length bs → Fails (read_lines ps sh ln pos) bs pos f
+lines_halt : (ps : List Kind) (sh : Sheet) (ln pos : ℕ) (bs : List ℕ) (f : Fault) → f.rule ≡ Pattern → read_lines ps sh ln pos bs ≡ Err f → f.byte < pos + length bs → Fails (read_lines ps sh ln pos) bs pos f
 unfolding read_lines
 lines_halt [] sh ln pos [] f is e lt = ok_err e
 lines_halt [] sh ln pos (b ∷ bs) f is e lt =
@@ -220,7 +220,7 @@ module _ (s : List ℕ → Scan) (pos ln : ℕ) (ok : List ℕ → Bool) (g f : 
       (λ (t : ok ns ≡ false). absurd (not_pattern f g (sym (cond-false _ _ _ t) ∙ e) is other))
       (cases_Bool (ok ns))
 
-lines_early : (ps : List Part) (sh : Sheet) (ln pos : ℕ) (pre suf : List ℕ) (f : Fault) → f.rule ≡ Pattern → read_lines ps sh ln pos (pre ++ suf) ≡ Err f → f.byte ≡ pos + length (pre ++ suf) → Early (read_lines ps sh ln pos) pos pre
+lines_early : (ps : List Kind) (sh : Sheet) (ln pos : ℕ) (pre suf : List ℕ) (f : Fault) → f.rule ≡ Pattern → read_lines ps sh ln pos (pre ++ suf) ≡ Err f → f.byte ≡ pos + length (pre ++ suf) → Early (read_lines ps sh ln pos) pos pre
 unfolding read_lines
 lines_early [] sh ln pos [] [] f is e end = ok_err e
 lines_early [] sh ln pos [] (c ∷ suf) f is e end = let q : pos ≡ f.byte = ap (λ x. x.byte) (same_fault _ f e) in absurd (omega arith)

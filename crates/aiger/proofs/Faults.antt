@@ -4,7 +4,7 @@ use Rattle.std.specs.List.{AllByRecursion as All}
 use Rattle.std.proofs.lemmas.List.{length-append, take_at}
 use Rattle.std.proofs.lemmas.Bool.{ne_eqb, eqb-true}
 use Rattle.drawing.specs.declared.refusal.Fault.{Fault}
-use Rattle.aiger.specs.declared.part.Part.{Part}
+use Rattle.aiger.specs.declared.part.Kind.{Kind}
 use Rattle.drawing.specs.declared.refusal.Rule.TheVariants.{Pattern, Figures}
 use Rattle.drawing.specs.Drawing.{Drawing}
 use Rattle.aiger.specs.Text.{word}
@@ -101,7 +101,7 @@ line_spot (whole ns p rest) bs pos ln ok g f go sp e ih = by (ok ns) e
         inl (record { rest = r.rest; lines = 1 + r.lines; up = up_join bs rest r.rest pos p f.byte 1 r.lines sp r.up; line = omega (arith, r.line) })
     by false e = inr (sym (same_fault _ _ e))
 
-lines_spot : (ps : List Part) (sh : Sheet) (ln pos : ℕ) (bs : List ℕ) (f : Fault) → read_lines ps sh ln pos bs ≡ Err f → Spot bs pos ln f
+lines_spot : (ps : List Kind) (sh : Sheet) (ln pos : ℕ) (bs : List ℕ) (f : Fault) → read_lines ps sh ln pos bs ≡ Err f → Spot bs pos ln f
 unfolding read_lines
 lines_spot [] sh ln pos [] f e = ok_err e
 lines_spot [] sh ln pos (b ∷ bs) f e =

@@ -5,5 +5,6 @@ pub mod Written
 pub mod Faults
 pub mod Beginnings
 pub mod Examples
-pub mod Reading
+pub mod Steps
+pub mod Bytes
 pub mod Writes

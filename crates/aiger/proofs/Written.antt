@@ -5,8 +5,8 @@ use Rattle.std.proofs.lemmas.List.{length-append, length-map, length-replicate, 
 use Rattle.std.proofs.lemmas.Bool.{and_from, eq-eqb, lt-ltb, le-leb, both_ways, not_from_false, cond-true}
 use Rattle.drawing.specs.declared.node.Node.{Node}
 use Rattle.drawing.specs.declared.node.Node.TheVariants.{Constant, Input, Gate}
-use Rattle.aiger.specs.declared.part.Part.{Part}
-use Rattle.aiger.specs.declared.part.Part.TheVariants.{Inputs, Outputs, Gates}
+use Rattle.aiger.specs.declared.part.Kind.{Kind}
+use Rattle.aiger.specs.declared.part.Kind.TheVariants.{Inputs, Outputs, Gates}
 use Rattle.drawing.specs.declared.refusal.Rule.TheVariants.{Literal}
 use Rattle.drawing.specs.Sets.{In}
 use Rattle.drawing.specs.Drawing.{Drawing, drawing, node_of, is_input, lawful}
@@ -21,7 +21,7 @@ abbrev Small : List ℕ → Type 0
 Small ns = All (λ x. x < 1000) ns
 
 -- one line that fits
-step : (p : Part) (ps : List Part) (sh : Sheet) (ln pos n : ℕ) (ms rest : List ℕ) → Small (n ∷ ms) → length ms ≡ width p → fits p sh (n ∷ ms) ≡ true → (next : ℕ) × (read_lines (p ∷ ps) sh ln pos (line_of (n ∷ ms) ++ rest) ≡ read_lines ps (add p sh (n ∷ ms)) (ln + 1) next rest)
+step : (p : Kind) (ps : List Kind) (sh : Sheet) (ln pos n : ℕ) (ms rest : List ℕ) → Small (n ∷ ms) → length ms ≡ width p → fits p sh (n ∷ ms) ≡ true → (next : ℕ) × (read_lines (p ∷ ps) sh ln pos (line_of (n ∷ ms) ++ rest) ≡ read_lines ps (add p sh (n ∷ ms)) (ln + 1) next rest)
 unfolding read_lines
 step p ps sh ln pos n ms rest small len good =
     let s = scan_line [] n ms (width p) pos rest small len in
@@ -41,12 +41,12 @@ lifts last n nodes lo hi =
     and_from _ _ (eq-eqb (2 * n % 2) 0 (omega arith)) (and_from _ _ (lt-ltb last (2 * n / 2) (omega arith)) (lt-ltb (2 * n / 2) (length nodes) (omega arith)))
 
 -- the lines R of the parts ps₁ lead from one sheet to another
-pub record Goes (ps₁ : List Part) (R : List (List ℕ)) (ps : List Part) (from to : Sheet) (ln pos : ℕ) (rest : List ℕ) : Type 0 where
+pub record Goes (ps₁ : List Kind) (R : List (List ℕ)) (ps : List Kind) (from to : Sheet) (ln pos : ℕ) (rest : List ℕ) : Type 0 where
   pub line' : ℕ
   pub at' : ℕ
   pub goes : read_lines (ps₁ ++ ps) from ln pos (flat_map line_of R ++ rest) ≡ read_lines ps to line' at' rest
 
-module _ (outputs : List ℕ) (g : ℕ) (ps : List Part) (rest : List ℕ) (after' : List Node) where
+module _ (outputs : List ℕ) (g : ℕ) (ps : List Kind) (rest : List ℕ) (after' : List Node) where
   inputs_go : (suf pre nodes : List Node) (n last ln pos : ℕ) → length pre ≡ n → last < n → n + length suf ≤ 256
       → nodes ≡ pre ++ replicate (length suf) Constant → after' ≡ pre ++ map hide suf
       → (last' : ℕ) × Goes (replicate (length (rows input_row n suf)) Inputs) (rows input_row n suf) ps (sheet nodes outputs last g) (sheet after' outputs last' g) ln pos rest
@@ -72,7 +72,7 @@ module _ (outputs : List ℕ) (g : ℕ) (ps : List Part) (rest : List ℕ) (afte
         },
       )
 
-outs_go : (todo done : List ℕ) (nodes : List Node) (i g : ℕ) (ps : List Part) (ln pos : ℕ) (rest : List ℕ) → length nodes ≤ 256 → All (λ l. l / 2 < length nodes) todo
+outs_go : (todo done : List ℕ) (nodes : List Node) (i g : ℕ) (ps : List Kind) (ln pos : ℕ) (rest : List ℕ) → length nodes ≤ 256 → All (λ l. l / 2 < length nodes) todo
     → Goes (replicate (length todo) Outputs) (output_rows todo) ps (sheet nodes done i g) (sheet nodes (done ++ todo) i g) ln pos rest
 outs_go [] done nodes i g ps ln pos rest few h =
     record { line' = ln; at' = pos; goes = ap (λ x. read_lines ps (sheet nodes x i g) ln pos rest) (sym (append-nil done)) }
@@ -102,7 +102,7 @@ no_plain n (Constant ∷ xs) h = absurd h.0
 no_plain n (Input ∷ xs) h = no_plain (suc n) xs h.1
 no_plain n (Gate p ∷ xs) h = no_plain (suc n) xs h.1
 
-module _ (outputs : List ℕ) (i : ℕ) (ps : List Part) (rest : List ℕ) (after' : List Node) where
+module _ (outputs : List ℕ) (i : ℕ) (ps : List Kind) (rest : List ℕ) (after' : List Node) where
   gates_go : (suf pre nodes : List Node) (n last ln pos : ℕ) → length pre ≡ n → last < n → n + length suf ≤ 256 → AllStand n suf
       → nodes ≡ pre ++ map hide suf → after' ≡ pre ++ suf
       → (last' : ℕ) × Goes (replicate (length (rows gate_row n suf)) Gates) (rows gate_row n suf) ps (sheet nodes outputs i last) (sheet after' outputs i last') ln pos rest

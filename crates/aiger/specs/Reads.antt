@@ -6,8 +6,8 @@ use Rattle.drawing.specs.declared.refusal.Rule.{Rule}
 use Rattle.drawing.specs.declared.refusal.Rule.TheVariants.{Pattern, Figures, Literal}
 use Rattle.drawing.specs.declared.refusal.Fault.{Fault}
 use Rattle.drawing.specs.Drawing.{Drawing, drawing, most_nodes, most_outputs, node_of, at, is_input, names}
-use Rattle.aiger.specs.declared.part.Part.{Part}
-use Rattle.aiger.specs.declared.part.Part.TheVariants.{Inputs, Outputs, Gates}
+use Rattle.aiger.specs.declared.part.Kind.{Kind}
+use Rattle.aiger.specs.declared.part.Kind.TheVariants.{Inputs, Outputs, Gates}
 use Rattle.aiger.specs.Text.{word}
 
 -- The pattern of a line.
@@ -58,7 +58,7 @@ pub record Sheet : Type 0 where
   pub gate : ℕ
 
 -- how many numbers come after the first of a line below the header
-abbrev pub width : Part → ℕ
+abbrev pub width : Kind → ℕ
 width Inputs = 0
 width Outputs = 0
 width Gates = 2
@@ -74,7 +74,7 @@ abbrev pub follows : ℕ → ℕ → List Node → Bool
 follows last l nodes = l % 2 == 0 && (nat_lt last (node_of l) && names nodes l)
 
 -- the literals of a line of this part are inside the rules
-abbrev pub fits : Part → Sheet → List ℕ → Bool
+abbrev pub fits : Kind → Sheet → List ℕ → Bool
 fits Inputs sh ns = follows sh.input (slice_index ns 0) sh.nodes
 fits Outputs sh ns = names sh.nodes (slice_index ns 0)
 fits Gates sh ns =
@@ -83,7 +83,7 @@ fits Gates sh ns =
     && (nat_lt (node_of (slice_index ns 1)) (node_of (slice_index ns 0)) && nat_lt (node_of (slice_index ns 2)) (node_of (slice_index ns 0))))
 
 -- the sheet with what the line says
-abbrev pub add : Part → Sheet → List ℕ → Sheet
+abbrev pub add : Kind → Sheet → List ℕ → Sheet
 add Inputs sh ns =
     record {
       nodes = slice_set sh.nodes (node_of (slice_index ns 0)) Input;
@@ -117,7 +117,7 @@ after (broken pos) ln ok bad go = fault Pattern pos ln
 after (whole ns pos rest) ln ok bad go = cond (ok ns) (go ns pos rest) bad
 
 -- the lines of these parts, from line ln on, which begins at byte `pos`; nothing follows the last
-unfoldable pub read_lines : List Part → Sheet → ℕ → ℕ → List ℕ → Outcome
+unfoldable pub read_lines : List Kind → Sheet → ℕ → ℕ → List ℕ → Outcome
 read_lines [] sh ln pos [] = Ok (drawing sh.nodes sh.outputs)
 read_lines [] sh ln pos (b ∷ bs) = fault Pattern pos ln
 read_lines (p ∷ ps) sh ln pos bs =
@@ -125,7 +125,7 @@ read_lines (p ∷ ps) sh ln pos bs =
     (λ ns next rest. read_lines ps (add p sh ns) (ln + 1) next rest)
 
 -- I input lines, O output lines and A gate lines
-abbrev pub plan : ℕ → ℕ → ℕ → List Part
+abbrev pub plan : ℕ → ℕ → ℕ → List Kind
 plan i o a = replicate i Inputs ++ (replicate o Outputs ++ replicate a Gates)
 
 -- a new sheet for node 0 and M others

@@ -1,65 +1,66 @@
--- What a reader in the middle of a text owes for the bytes to come.
-use Rattle.std.specs.Prelude.{◌≡◌, ℕ, ◌+◌, ◌-◌, ◌*◌, ◌<◌, ◌≤◌, ◌++◌, length, replicate, cond, true, false, List, [], ◌∷◌, None, Some, Option, ◌==◌, slice_index}
-use Rattle.aiger.specs.declared.draft.Draft.{Draft}
-use Rattle.aiger.specs.declared.header.Header.{Header}
+-- What a reader that stands in the middle of a text owes for the bytes to come.
+use Rattle.std.specs.Prelude.{◌≡◌, ℕ, ◌+◌, ◌<◌, ◌≤◌, true, false, cond, List, [], ◌∷◌, length, drop, Some, None, Ok, Err, Option, Result, ◌==◌, slice_index}
 use Rattle.aiger.specs.declared.line.Line.{Line}
+use Rattle.aiger.specs.declared.draft.Draft.{Draft}
+use Rattle.aiger.specs.declared.header.Header.{Header as Figures}
+use Rattle.aiger.specs.declared.part.Kind.{Kind}
+use Rattle.aiger.specs.declared.part.Kind.TheVariants.{Inputs, Outputs, Gates}
 use Rattle.aiger.specs.declared.part.Part.{Part}
-use Rattle.aiger.specs.declared.part.Part.TheVariants.{Inputs, Outputs, Gates}
+use Rattle.aiger.specs.declared.part.Part.TheVariants.{Word, Header, Lines, End}
 use Rattle.aiger.specs.declared.reader.Reader.{Reader}
-use Rattle.drawing.specs.Drawing.{Drawing, drawing, most_nodes, most_outputs}
+use Rattle.drawing.specs.Drawing.{Drawing, drawing, most_outputs}
 use Rattle.drawing.specs.declared.refusal.Fault.{Fault}
 use Rattle.drawing.specs.declared.refusal.Rule.TheVariants.{Pattern, Literal}
-use Rattle.aiger.specs.Reads.{Scan, broken, whole, scan, is_digit, Sheet, fits, add, Outcome, headed, plan, blank, read_lines, read_heading}
+use Rattle.aiger.specs.Text.{word}
+use Rattle.aiger.specs.Reads.{Scan, broken, whole, scan, Sheet, fits, add, width, Outcome, fault, after, headed, read_lines, plan, read_heading, read_word}
 
--- the fault of a pattern that the next byte breaks: at that byte
-abbrev pub broken_at : Reader → Fault
-broken_at r = record { rule = Pattern; byte = r.pos; line = r.row }
+-- what comes of the line l with the bytes bs to come
+abbrev pub scan_on : Line → List ℕ → Scan
+scan_on l bs = scan l.more l.numbers.items l.number l.pos bs
+
+-- the fault of a line whose next byte breaks the pattern: at that byte
+abbrev pub broken_at : Line → Fault
+broken_at l = record { rule = Pattern; byte = l.pos; line = l.row }
 
 -- the fault of a line with a literal outside the rules: at the first byte of the line
 abbrev pub misplaced_in : Line → Fault
 misplaced_in l = record { rule = Literal; byte = l.start; line = l.row }
 
--- what comes of a line in the bytes to come: the numbers `done` are read, `number` is the number so far, if it has
--- begun, and `more` come after it
-abbrev pub scan_on : ℕ → List ℕ → Option ℕ → Reader → Scan
-scan_on more done number r = scan more done number r.pos r.rest.now
+-- m is the line l behind the byte b, where byte 10 ends the row
+pub record Passed (b : ℕ) (l m : Line) : Type 0 where
+  pub row : m.row ≡ cond (b == 10) (l.row + 1) l.row
+  pub start : m.start ≡ cond (b == 10) (l.pos + 1) l.start
+  pub pos : m.pos ≡ l.pos + 1
+  pub more : m.more ≡ l.more
+  pub numbers : m.numbers ≡ l.numbers
+  pub number : m.number ≡ l.number
 
--- what comes of a line once a number with `more` to come after it is read to its end, and the last of `done`
-abbrev pub closed : ℕ → List ℕ → Reader → Scan
-closed more done r = cond (more == 0) (whole done r.pos r.rest.now) (scan (more - 1) done None r.pos r.rest.now)
+-- m has the row and the first byte of the line l, and stands at the same byte
+pub record Stays (l : Line) (m : Line) : Type 0 where
+  pub row : m.row ≡ l.row
+  pub start : m.start ≡ l.start
+  pub on : m.pos ≡ l.pos
 
--- no digit comes next
-abbrev pub NoDigit : List ℕ → Type 0
-NoDigit bs = (b : ℕ) (more : List ℕ) → bs ≡ b ∷ more → is_digit b ≡ false
+-- the line l takes the byte b and is m then: with as many numbers in all, and whatever follows is read alike
+pub record Goes (l : Line) (b : ℕ) (m : Line) : Type 0 where
+  pub stays : Stays l m
+  pub fields : length m.numbers.items + m.more ≡ length l.numbers.items + l.more
+  pub same : (bs : List ℕ) → scan_on l (b ∷ bs) ≡ scan m.more m.numbers.items m.number (l.pos + 1) bs
 
--- the reader r reads the digits of the number v, and is s then: in the same line, before a byte that is no digit
-pub record Numbers (r : Reader) (v : ℕ) (s : Reader) : Type 0 where
-  pub row : s.row ≡ r.row
-  pub on : r.pos ≤ s.pos
-  pub same : (more : ℕ) (done : List ℕ) → scan_on more done None r ≡ scan_on more done (Some v) s
-  pub ends : NoDigit s.rest.now
+-- byte 10 ends the line l, which is m then: ns are all its numbers, whatever follows, and m has none
+pub record Closes (l : Line) (ns : List ℕ) (m : Line) : Type 0 where
+  pub stays : Stays l m
+  pub fields : length ns ≡ length l.numbers.items + l.more + 1
+  pub same : (bs : List ℕ) → scan_on l (10 ∷ bs) ≡ whole ns (l.pos + 1) bs
+  pub empty : (m.numbers.items ≡ []) × (m.number ≡ None)
 
--- the reader r reads the number v with its end, where `more` numbers come after it, and is s then: in the same line
-pub record Passes (more : ℕ) (r : Reader) (v : ℕ) (s : Reader) : Type 0 where
-  pub row : s.row ≡ r.row
-  pub on : r.pos < s.pos
-  pub same : (done : List ℕ) → scan_on more done None r ≡ closed more (done ++ v ∷ []) s
-
--- the reader r reads the line l, with `width` numbers after its first, and is s then: at the line behind it
-pub record Ends (width : ℕ) (r : Reader) (l : Line) (s : Reader) : Type 0 where
-  pub same : scan_on width [] None r ≡ whole l.numbers.items s.pos s.rest.now
-  pub count : length l.numbers.items ≡ width + 1
-  pub start : l.start ≡ r.pos
-  pub row : l.row ≡ r.row
-  pub next : s.row ≡ r.row + 1
-
--- f is the fault of a line with this row that breaks its pattern: at the byte where the scan breaks
-pub record Breaks (s : Scan) (row : ℕ) (f : Fault) : Type 0 where
-  pub at : s ≡ broken f.byte
-  pub is : f ≡ record { rule = Pattern; byte = f.byte; line = row }
+-- the byte b breaks the pattern of the line l: f is the fault at that byte, and the line is broken there whatever follows
+pub record Breaks (l : Line) (b : ℕ) (f : Fault) : Type 0 where
+  pub is : f ≡ broken_at l
+  pub same : (bs : List ℕ) → scan_on l (b ∷ bs) ≡ broken l.pos
 
 -- the header h announces what the figures say, which are inside the rules
-pub record Announces (figures : List ℕ) (h : Header) : Type 0 where
+pub record Announces (figures : List ℕ) (h : Figures) : Type 0 where
   pub inside : headed figures ≡ true
   pub last : h.last ≡ slice_index figures 0
   pub inputs : h.inputs ≡ slice_index figures 1
@@ -74,28 +75,97 @@ drafted t = record { nodes = t.nodes.items; outputs = t.outputs.items; input = t
 abbrev pub drawn : Draft → Drawing
 drawn t = drawing t.nodes.items t.outputs.items
 
--- how many outputs a line of this part adds
-abbrev pub due : Part → ℕ
+-- the numbers ns of a line of the kind k are put on the sheet sh, which is `to` then, or they are outside the rules
+abbrev pub Puts : Kind → Sheet → List ℕ → Option (Unit {0}) → Sheet → Type 0
+Puts k sh ns (Some _) to = (fits k sh ns ≡ true) × (to ≡ add k sh ns)
+Puts k sh ns None to = fits k sh ns ≡ false
+
+-- what the line of the kind k owes once its bytes are scanned
+abbrev pub rest : Reader → Kind → Scan → Outcome
+rest r k s =
+    after s r.line.row (fits k (drafted r.draft)) (fault Literal r.line.start r.line.row)
+    (λ ns next bs. read_lines (plan r.inputs r.outputs r.gates) (add k (drafted r.draft) ns) (r.line.row + 1) next bs)
+
+-- what the reader owes for the bytes to come, in each part
+abbrev pub go_on_in : Part → Reader → List ℕ → Outcome
+go_on_in (Word n) r bs = read_word (drop n word) r.line.pos bs
+go_on_in Header r bs = read_heading (scan_on r.line bs)
+go_on_in (Lines k) r bs = rest r k (scan_on r.line bs)
+go_on_in End r bs = read_lines [] (drafted r.draft) r.line.row r.line.pos bs
+
+-- what the reader owes for the bytes to come
+abbrev pub go_on : Reader → List ℕ → Outcome
+go_on r bs = go_on_in r.part r bs
+
+-- how many outputs a line of this kind adds
+abbrev pub due : Kind → ℕ
 due Inputs = 0
 due Outputs = 1
 due Gates = 0
 
--- the numbers ns of a line of the part p are put on the sheet sh, which is `to` then, or they are outside the rules
-abbrev pub Puts : Part → Sheet → List ℕ → Option (Unit {0}) → Sheet → Type 0
-Puts p sh ns (Some _) to = (fits p sh ns ≡ true) × (to ≡ add p sh ns)
-Puts p sh ns None to = fits p sh ns ≡ false
+-- how many outputs the line that is being read adds
+abbrev pub due_in : Part → ℕ
+due_in (Word n) = 0
+due_in Header = 0
+due_in (Lines k) = due k
+due_in End = 0
 
--- what the reader owes for the bytes to come, with the lines of these parts to come, on this sheet
-abbrev pub owed : List Part → Sheet → Reader → Outcome
-owed ps sh r = read_lines ps sh r.row r.pos r.rest.now
+-- how many numbers come after a line's first
+abbrev pub width_in : Part → ℕ
+width_in (Word n) = 4
+width_in Header = 4
+width_in (Lines k) = width k
+width_in End = 0
 
--- the reader r reads so many lines of the part p onto the draft t, and is s then, with the draft u
-pub record Follows (p : Part) (count : ℕ) (t : Draft) (r : Reader) (u : Draft) (s : Reader) : Type 0 where
-  pub outputs : length (drafted u).outputs ≤ length (drafted t).outputs + count * due p
-  pub same : (ps : List Part) → owed (replicate count p ++ ps) (drafted t) r ≡ owed ps (drafted u) s
+-- n letters of the first word are read, in line 0, and no number has begun
+pub record First (n : ℕ) (l : Line) : Type 0 where
+  pub letters : n < 4
+  pub row : l.row ≡ 0
+  pub more : l.more ≡ 4
+  pub numbers : l.numbers.items ≡ []
+  pub number : l.number ≡ None
 
--- the reader r reads the header h, and is s then: it owes the lines that h announces, which are not too many
-pub record Heads (r : Reader) (h : Header) (s : Reader) : Type 0 where
-  pub same : read_heading (scan_on 4 [] None r) ≡ owed (plan h.inputs h.outputs h.gates) (blank h.last) s
-  pub nodes : h.last < most_nodes
-  pub outputs : h.outputs ≤ most_outputs
+-- the first word and the header are in line 0; in the other parts nothing is asked
+abbrev pub FreshIn : Part → Line → Type 0
+FreshIn (Word n) l = First n l
+FreshIn Header l = l.row ≡ 0
+FreshIn (Lines k) l = Unit {0}
+FreshIn End l = Unit {0}
+
+-- what holds of a reader between two bytes
+pub record Sound (r : Reader) : Type 0 where
+  -- the numbers read and those to come are those of a line of this part
+  pub fields : length r.line.numbers.items + r.line.more ≡ width_in r.part
+  -- the outputs drawn, those to come and the one being read are not too many
+  pub outputs : length r.draft.outputs.items + (r.outputs + due_in r.part) ≤ most_outputs
+  -- the first word and the header are in line 0
+  pub fresh : FreshIn r.part r.line
+
+-- r with the line l
+abbrev pub with_line : Reader → Line → Reader
+with_line r l = record { part = r.part; line = l; inputs = r.inputs; outputs = r.outputs; gates = r.gates; draft = r.draft }
+
+-- s is sound, and owes for the bytes behind b what r owes for them with b
+pub record Reaches (r : Reader) (b : ℕ) (s : Reader) : Type 0 where
+  pub sound : Sound s
+  pub same : (bs : List ℕ) → go_on r (b ∷ bs) ≡ go_on s bs
+
+-- the reader r took the byte b, is s at that byte, and reaches behind it what it owes
+pub record Stepped (r : Reader) (b : ℕ) (s : Reader) : Type 0 where
+  pub on : s.line.pos ≡ r.line.pos
+  pub reaches : (l : Line) → Passed b s.line l → Reaches r b (with_line s l)
+
+-- the reader r takes the byte b, or refuses it whatever follows
+abbrev pub Steps : Reader → ℕ → Result (Unit {0}) Fault → Reader → Type 0
+Steps r b (Ok _) s = Stepped r b s
+Steps r b (Err f) s = (bs : List ℕ) → go_on r (b ∷ bs) ≡ Err f
+
+-- s is sound, and owes the lines that are left behind the line of r
+pub record Owes (r s : Reader) : Type 0 where
+  pub sound : Sound s
+  pub same : (bs : List ℕ) → go_on s bs ≡ read_lines (plan r.inputs r.outputs r.gates) (drafted r.draft) (r.line.row + 1) (r.line.pos + 1) bs
+
+-- s stands where r does, at the byte 10 that ends a line: behind it the lines that are left begin
+pub record Begins (r s : Reader) : Type 0 where
+  pub on : s.line.pos ≡ r.line.pos
+  pub owes : (l : Line) → Passed 10 s.line l → Owes r (with_line s l)

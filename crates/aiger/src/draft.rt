@@ -3,11 +3,11 @@
 ghost use Rattle.std.specs.Prelude.{◌≡◌, ◌+◌, ◌<◌, ◌≤◌, true, false, [], ◌∷◌, length, MatchOption};
 ghost use Rattle.aiger.specs.Reads.{blank, follows, width};
 ghost use Rattle.aiger.specs.States.{drafted, drawn, due, Puts};
-ghost use Rattle.aiger.specs.declared.part.Part.TheVariants.{Inputs, Outputs, Gates};
+ghost use Rattle.aiger.specs.declared.part.Kind.TheVariants.{Inputs, Outputs, Gates};
 ghost use Rattle.drawing.specs.Drawing.{lawful, most_nodes, most_outputs, node_of};
 ghost use Rattle.drawing.specs.Tables.{drawing_of};
 
-use crate::part::Part;
+use crate::part::Kind;
 use arrayvec::ArrayVec;
 use drawing::node::{Node, Pair};
 use drawing::table::Table;
@@ -42,16 +42,16 @@ impl Draft {
     }
 
     /// Puts a line's numbers on the draft, or answers `None` where a literal is outside the rules.
-    pub(crate) fn put(&mut self, part: Part, numbers: &[u16]) -> Option<()>
-        requires whole { length numbers.now ≡ width part + 1 }
-        requires room { length (drafted self.old).outputs + due part ≤ most_outputs }
-        ensures puts { Puts part (drafted self.old) numbers.now result (drafted self.new) }
-        ensures room { length (drafted self.new).outputs ≤ length (drafted self.old).outputs + due part }
+    pub(crate) fn put(&mut self, kind: Kind, numbers: &[u16]) -> Option<()>
+        requires whole { length numbers.now ≡ width kind + 1 }
+        requires room { length (drafted self.old).outputs + due kind ≤ most_outputs }
+        ensures puts { Puts kind (drafted self.old) numbers.now result (drafted self.new) }
+        ensures room { length (drafted self.new).outputs ≤ length (drafted self.old).outputs + due kind }
     {
-        match (part, numbers) {
-            (Part::Inputs, &[literal]) => self.input(literal),
-            (Part::Outputs, &[literal]) => self.output(literal),
-            (Part::Gates, &[literal, left, right]) => self.gate(literal, Pair { left, right }),
+        match (kind, numbers) {
+            (Kind::Inputs, &[literal]) => self.input(literal),
+            (Kind::Outputs, &[literal]) => self.output(literal),
+            (Kind::Gates, &[literal, left, right]) => self.gate(literal, Pair { left, right }),
             _ => None,
         }
     }

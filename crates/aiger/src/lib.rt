@@ -17,12 +17,11 @@ mod header;
 mod line;
 mod part;
 mod reader;
-mod text;
 mod writer;
 
 ghost use Rattle.aiger.specs.Laws.{BreaksForGood, EndsEarly, Examples, OnlyTexts, PlacesFaults, ReadsBack};
 
-pub use text::read;
+pub use reader::read;
 pub use writer::write;
 
 /// What is proved of the format.
