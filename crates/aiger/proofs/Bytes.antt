@@ -1,9 +1,9 @@
 -- What the reader does at a byte, in each part.
-use Rattle.std.proofs.Common.{◌≡◌, ℕ, zero, suc, ◌+◌, ◌<◌, ◌≤◌, true, false, cond, eqb, List, [], ◌∷◌, length, get_or, drop, None, Ok, Err, sym, refl, ap, ◌∙◌, subst, arith}
+use Rattle.std.proofs.Common.{◌≡◌, ℕ, zero, suc, ◌+◌, ◌<◌, ◌≤◌, true, cond, eqb, List, [], ◌∷◌, length, get_or, drop, None, Ok, Err, sym, refl, ap, ◌∙◌, arith}
 use Rattle.std.proofs.lemmas.List.{drop_more}
 use Rattle.std.proofs.lemmas.Bool.{cond-true, cond-false, eq-eqb, ne_eqb}
 use Rattle.drawing.specs.declared.refusal.Fault.{Fault}
-use Rattle.drawing.specs.declared.refusal.Rule.TheVariants.{Pattern, Figures, Literal}
+use Rattle.drawing.specs.declared.refusal.Rule.TheVariants.{Pattern, Literal}
 use Rattle.drawing.specs.Drawing.{drawing}
 use Rattle.aiger.specs.declared.line.Line.{Line}
 use Rattle.aiger.specs.declared.draft.Draft.{Draft}
@@ -13,117 +13,44 @@ use Rattle.aiger.specs.declared.part.Part.{Part}
 use Rattle.aiger.specs.declared.part.Part.TheVariants.{Word, Header, Lines, End}
 use Rattle.aiger.specs.declared.reader.Reader.{Reader}
 use Rattle.aiger.specs.Text.{word}
-use Rattle.aiger.specs.Reads.{whole, scan, fits, add, width, headed, after, fault, blank, read_lines, read_heading, read_word, plan}
-use Rattle.aiger.specs.States.{Announces, Begins, Breaks, broken_at, misplaced_in, Closes, drafted, due_in, FreshIn, Goes, go_on, go_on_in, Passed, rest, scan_on, Sound, Stepped, width_in, with_line}
+use Rattle.aiger.specs.Reads.{scan, fits, add, width, after, fault, blank, read_lines, read_heading, read_word, plan}
+use Rattle.aiger.specs.States.{Announces, Begins, broken_at, Closes, drafted, First, go_on, go_on_in, Passed, rest, scan_on, Sound, SoundIn, Stepped}
 
 abbrev pub with_part : Reader → Part → Reader
 with_part r p = record { part = p; line = r.line; inputs = r.inputs; outputs = r.outputs; gates = r.gates; draft = r.draft }
 
--- A byte in a line of numbers.
-
--- the part is a line of numbers
-abbrev pub InLine : Part → Type 0
-InLine (Word n) = ⊥
-InLine Header = Unit {0}
-InLine (Lines k) = Unit {0}
-InLine End = ⊥
-
-module _ (r : Reader) (b : ℕ) (m : Line) (g : Goes r.line b m) (ne : b ≡ 10 → ⊥) where
-  module _ (l : Line) (q : Passed b m l) where
-    same_row : l.row ≡ r.line.row
-    same_row = q.row ∙ cond-false _ _ _ (ne_eqb b 10 ne) ∙ g.stays.row
-
-    same_start : l.start ≡ r.line.start
-    same_start = q.start ∙ cond-false _ _ _ (ne_eqb b 10 ne) ∙ g.stays.start
-
-    same_scan : (bs : List ℕ) → scan_on r.line (b ∷ bs) ≡ scan_on l bs
-    same_scan bs =
-        g.same bs ∙ (λ i. scan (sym q.more i) (sym q.numbers i).items (sym q.number i) (sym g.stays.on i + 1) bs)
-        ∙ ap (λ p. scan l.more l.numbers.items l.number p bs) (sym q.pos)
-
-    takes_in : (p : Part) → InLine p → (bs : List ℕ) → go_on_in p r (b ∷ bs) ≡ go_on_in p (with_line r l) bs
-    takes_in (Word n) h bs = absurd h
-    takes_in Header h bs = ap read_heading (same_scan bs)
-    takes_in (Lines k) h bs =
-        λ i. after (same_scan bs i) (sym same_row i) (fits k (drafted r.draft)) (fault Literal (sym same_start i) (sym same_row i)) (λ ns next bs. read_lines (plan r.inputs r.outputs r.gates) (add k (drafted r.draft) ns) (sym same_row i + 1) next bs)
-    takes_in End h bs = absurd h
-
-    fresh_in : (p : Part) → InLine p → FreshIn p r.line → FreshIn p l
-    fresh_in (Word n) h f = absurd h
-    fresh_in Header h f = same_row ∙ f
-    fresh_in (Lines k) h f = tt
-    fresh_in End h f = absurd h
-
-  pub takes : Sound r → InLine r.part → Stepped r b (with_line r m)
-  takes s h =
-      record {
-        on = g.stays.on;
-        reaches = λ l q. record {
-          sound = record {
-            fields = (λ i. length (q.numbers i).items + q.more i) ∙ g.fields ∙ s.fields;
-            outputs = s.outputs;
-            fresh = fresh_in l q r.part h s.fresh;
-          };
-          same = takes_in l q r.part h;
-        };
-      }
-
-module _ (r : Reader) (b : ℕ) (f : Fault) (g : Breaks r.line b f) where
-  breaks_in : (p : Part) → InLine p → FreshIn p r.line → (bs : List ℕ) → go_on_in p r (b ∷ bs) ≡ Err f
-  breaks_in (Word n) h w bs = absurd h
-  breaks_in Header h w bs = ap read_heading (g.same bs) ∙ ap (fault Pattern r.line.pos) (sym w) ∙ ap Err (sym g.is)
-  breaks_in (Lines k) h w bs = ap (rest r k) (g.same bs) ∙ ap Err (sym g.is)
-  breaks_in End h w bs = absurd h
-
-  pub breaks : Sound r → InLine r.part → (bs : List ℕ) → go_on r (b ∷ bs) ≡ Err f
-  breaks s h = breaks_in r.part h s.fresh
-
 -- The end of a line.
 
 module _ (r : Reader) (ns : List ℕ) (m : Line) (g : Closes r.line ns m) where
-  module _ (k : Kind) (p : r.part ≡ Lines k) where
-    closes_at : (bs : List ℕ) → go_on r (10 ∷ bs) ≡ rest r k (whole ns (r.line.pos + 1) bs)
-    closes_at bs = ap (λ q. go_on_in q r (10 ∷ bs)) p ∙ ap (rest r k) (g.same bs)
+  pub line_passes : (k : Kind) (d : Draft) (s : Reader) → r.part ≡ Lines k → fits k (drafted r.draft) ns ≡ true → drafted d ≡ add k (drafted r.draft) ns → Begins (record { part = r.part; line = m; inputs = r.inputs; outputs = r.outputs; gates = r.gates; draft = d }) s → Stepped r 10 s
+  line_passes k d s p good put b =
+      record {
+        on = b.on ∙ g.stays.on;
+        reaches = λ l q.
+            let o = b.owes l q in
+            record {
+              sound = o.sound;
+              same = λ bs.
+                  ap (λ q. go_on_in q r (10 ∷ bs)) p ∙ ap (rest r k) (g.same bs) ∙ cond-true _ _ _ good
+                  ∙ (λ i. read_lines (plan r.inputs r.outputs r.gates) (sym put i) (sym g.stays.row i + 1) (sym g.stays.on i + 1) bs)
+                  ∙ sym (o.same bs);
+            };
+      }
 
-    pub line_fails : (f : Fault) → f ≡ misplaced_in r.line → fits k (drafted r.draft) ns ≡ false → (bs : List ℕ) → go_on r (10 ∷ bs) ≡ Err f
-    line_fails f is bad bs = closes_at bs ∙ cond-false _ _ _ bad ∙ ap Err (sym is)
-
-    pub line_passes : (d : Draft) (s : Reader) → fits k (drafted r.draft) ns ≡ true → drafted d ≡ add k (drafted r.draft) ns → Begins (record { part = r.part; line = m; inputs = r.inputs; outputs = r.outputs; gates = r.gates; draft = d }) s → Stepped r 10 s
-    line_passes d s good put b =
-        record {
-          on = b.on ∙ g.stays.on;
-          reaches = λ l q.
-              let o = b.owes l q in
-              record {
-                sound = o.sound;
-                same = λ bs.
-                    closes_at bs ∙ cond-true _ _ _ good
-                    ∙ (λ i. read_lines (plan r.inputs r.outputs r.gates) (sym put i) (sym g.stays.row i + 1) (sym g.stays.on i + 1) bs)
-                    ∙ sym (o.same bs);
-              };
-        }
-
-  module _ (p : r.part ≡ Header) where
-    heading_at : (bs : List ℕ) → go_on r (10 ∷ bs) ≡ read_heading (whole ns (r.line.pos + 1) bs)
-    heading_at bs = ap (λ q. go_on_in q r (10 ∷ bs)) p ∙ ap read_heading (g.same bs)
-
-    pub heading_fails : (f : Fault) → f ≡ record { rule = Figures; byte = 0; line = 0 } → headed ns ≡ false → (bs : List ℕ) → go_on r (10 ∷ bs) ≡ Err f
-    heading_fails f is bad bs = heading_at bs ∙ cond-false _ _ _ bad ∙ ap Err (sym is)
-
-    pub heading_passes : (h : Announced) (d : Draft) (s : Reader) → Announces ns h → drafted d ≡ blank h.last → r.line.row ≡ 0 → Begins (record { part = r.part; line = m; inputs = h.inputs; outputs = h.outputs; gates = h.gates; draft = d }) s → Stepped r 10 s
-    heading_passes h d s a new z b =
-        record {
-          on = b.on ∙ g.stays.on;
-          reaches = λ l q.
-              let o = b.owes l q in
-              record {
-                sound = o.sound;
-                same = λ bs.
-                    heading_at bs ∙ cond-true _ _ _ a.inside
-                    ∙ (λ i. read_lines (plan (sym a.inputs i) (sym a.outputs i) (sym a.gates i)) (sym (new ∙ ap blank a.last) i) (sym (g.stays.row ∙ z) i + 1) (sym g.stays.on i + 1) bs)
-                    ∙ sym (o.same bs);
-              };
-        }
+  pub heading_passes : (h : Announced) (d : Draft) (s : Reader) → r.part ≡ Header → r.line.row ≡ 0 → Announces ns h → drafted d ≡ blank h.last → Begins (record { part = r.part; line = m; inputs = h.inputs; outputs = h.outputs; gates = h.gates; draft = d }) s → Stepped r 10 s
+  heading_passes h d s p z a new b =
+      record {
+        on = b.on ∙ g.stays.on;
+        reaches = λ l q.
+            let o = b.owes l q in
+            record {
+              sound = o.sound;
+              same = λ bs.
+                  ap (λ q. go_on_in q r (10 ∷ bs)) p ∙ ap read_heading (g.same bs) ∙ cond-true _ _ _ a.inside
+                  ∙ (λ i. read_lines (plan (sym a.inputs i) (sym a.outputs i) (sym a.gates i)) (sym (new ∙ ap blank a.last) i) (sym (g.stays.row ∙ z) i + 1) (sym g.stays.on i + 1) bs)
+                  ∙ sym (o.same bs);
+            };
+      }
 
 -- The first word.
 
@@ -138,10 +65,7 @@ word_read : (pos : ℕ) (bs : List ℕ) → read_word [] pos bs ≡ read_heading
 unfolding read_word
 word_read pos bs = refl
 
-module _ (r : Reader) (s : Sound r) (n : ℕ) (p : r.part ≡ Word n) (b : ℕ) where
-  first : FreshIn (Word n) r.line
-  first = subst (λ q. FreshIn q r.line) p s.fresh
-
+module _ (r : Reader) (n : ℕ) (p : r.part ≡ Word n) (first : First n r.line) (b : ℕ) where
   word_on : (bs : List ℕ) → go_on r (b ∷ bs) ≡ cond (eqb b (get_or word n 0)) (read_word (drop (n + 1) word) (r.line.pos + 1) bs) (fault Pattern r.line.pos 0)
   unfolding read_word
   word_on bs =
@@ -155,16 +79,10 @@ module _ (r : Reader) (s : Sound r) (n : ℕ) (p : r.part ≡ Word n) (b : ℕ) 
     letter_on : (bs : List ℕ) → go_on r (b ∷ bs) ≡ read_word (drop (n + 1) word) (r.line.pos + 1) bs
     letter_on bs = word_on bs ∙ cond-true _ _ _ (eq-eqb b (get_or word n 0) e)
 
-    outputs : length r.draft.outputs.items + (r.outputs + 0) ≤ 64
-    outputs = subst (λ q. length r.draft.outputs.items + (r.outputs + due_in q) ≤ 64) p s.outputs
-
     module _ (l : Line) (q : Passed b r.line l) where
       row_stays : l.row ≡ 0
       row_stays =
           q.row ∙ cond-false _ _ _ (ne_eqb b 10 (λ x. no_end n first.letters (sym e ∙ x))) ∙ first.row
-
-      fields : length l.numbers.items + l.more ≡ 4
-      fields = (λ i. length (q.numbers i).items + q.more i) ∙ s.fields ∙ ap width_in p
 
     pub letter_steps : n < 3 → Stepped r b (with_part r (Word (n + 1)))
     letter_steps lt =
@@ -172,15 +90,11 @@ module _ (r : Reader) (s : Sound r) (n : ℕ) (p : r.part ≡ Word n) (b : ℕ) 
           on = refl;
           reaches = λ l q. record {
             sound = record {
-              fields = fields l q;
-              outputs = outputs;
-              fresh = record {
-                letters = omega arith;
-                row = row_stays l q;
-                more = q.more ∙ first.more;
-                numbers = ap (λ v. v.items) q.numbers ∙ first.numbers;
-                number = q.number ∙ first.number;
-              };
+              letters = omega arith;
+              row = row_stays l q;
+              more = q.more ∙ first.more;
+              numbers = ap (λ v. v.items) q.numbers ∙ first.numbers;
+              number = q.number ∙ first.number;
             };
             same = λ bs. letter_on bs ∙ ap (λ k. read_word (drop (n + 1) word) k bs) (sym q.pos);
           };
@@ -195,7 +109,7 @@ module _ (r : Reader) (s : Sound r) (n : ℕ) (p : r.part ≡ Word n) (b : ℕ) 
           reaches = λ l q.
               let none = ap (λ v. v.items) q.numbers ∙ first.numbers in
               record {
-                sound = record { fields = fields l q; outputs = outputs; fresh = row_stays l q };
+                sound = record { row = row_stays l q; fields = omega (arith, ap length none, q.more, first.more) };
                 same = λ bs.
                     letter_on bs ∙ (λ i. read_word (drop (four i) word) (sym q.pos i) bs) ∙ word_read l.pos bs
                     ∙ (λ i. read_heading (scan (sym (q.more ∙ first.more) i) (sym none i) (sym (q.number ∙ first.number) i) l.pos bs));
@@ -212,15 +126,15 @@ word_ends : (k pos : ℕ) → k < 4 → read_word (drop k word) pos [] ≡ fault
 unfolding read_word
 word_ends k pos lt = ap (λ ws. read_word ws pos []) (drop_more word k 0 lt)
 
-ends_in : (r : Reader) (p : Part) → FreshIn p r.line → (p ≡ End → ⊥) → go_on_in p r [] ≡ fault Pattern r.line.pos r.line.row
+ends_in : (r : Reader) (p : Part) → SoundIn p r → (p ≡ End → ⊥) → go_on_in p r [] ≡ fault Pattern r.line.pos r.line.row
 unfolding scan
 ends_in r (Word n) f ne = word_ends n r.line.pos f.letters ∙ ap (fault Pattern r.line.pos) (sym f.row)
-ends_in r Header f ne = ap (fault Pattern r.line.pos) (sym f)
+ends_in r Header f ne = ap (fault Pattern r.line.pos) (sym f.row)
 ends_in r (Lines k) f ne = refl
 ends_in r End f ne = absurd (ne refl)
 
 pub stops_early : (r : Reader) (f : Fault) → Sound r → (r.part ≡ End → ⊥) → f ≡ broken_at r.line → go_on r [] ≡ Err f
-stops_early r f s ne is = ends_in r r.part s.fresh ne ∙ ap Err (sym is)
+stops_early r f s ne is = ends_in r r.part s ne ∙ ap Err (sym is)
 
 pub stops_well : (r : Reader) → r.part ≡ End → go_on r [] ≡ Ok (drawing (drafted r.draft).nodes (drafted r.draft).outputs)
 unfolding read_lines

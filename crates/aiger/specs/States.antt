@@ -103,20 +103,6 @@ due Inputs = 0
 due Outputs = 1
 due Gates = 0
 
--- how many outputs the line that is being read adds
-abbrev pub due_in : Part → ℕ
-due_in (Word n) = 0
-due_in Header = 0
-due_in (Lines k) = due k
-due_in End = 0
-
--- how many numbers come after a line's first
-abbrev pub width_in : Part → ℕ
-width_in (Word n) = 4
-width_in Header = 4
-width_in (Lines k) = width k
-width_in End = 0
-
 -- n letters of the first word are read, in line 0, and no number has begun
 pub record First (n : ℕ) (l : Line) : Type 0 where
   pub letters : n < 4
@@ -125,21 +111,27 @@ pub record First (n : ℕ) (l : Line) : Type 0 where
   pub numbers : l.numbers.items ≡ []
   pub number : l.number ≡ None
 
--- the first word and the header are in line 0; in the other parts nothing is asked
-abbrev pub FreshIn : Part → Line → Type 0
-FreshIn (Word n) l = First n l
-FreshIn Header l = l.row ≡ 0
-FreshIn (Lines k) l = Unit {0}
-FreshIn End l = Unit {0}
+-- the line l is the header, of five figures in line 0
+pub record Heading (l : Line) : Type 0 where
+  pub row : l.row ≡ 0
+  pub fields : length l.numbers.items + l.more ≡ 4
+
+-- r is in a line of the kind k: it has the numbers of such a line, and the outputs drawn, this one and those to come are not
+-- too many
+pub record Row (k : Kind) (r : Reader) : Type 0 where
+  pub fields : length r.line.numbers.items + r.line.more ≡ width k
+  pub outputs : length r.draft.outputs.items + (r.outputs + due k) ≤ most_outputs
+
+-- what holds of a reader in each part
+abbrev pub SoundIn : Part → Reader → Type 0
+SoundIn (Word n) r = First n r.line
+SoundIn Header r = Heading r.line
+SoundIn (Lines k) r = Row k r
+SoundIn End r = Unit {0}
 
 -- what holds of a reader between two bytes
-pub record Sound (r : Reader) : Type 0 where
-  -- the numbers read and those to come are those of a line of this part
-  pub fields : length r.line.numbers.items + r.line.more ≡ width_in r.part
-  -- the outputs drawn, those to come and the one being read are not too many
-  pub outputs : length r.draft.outputs.items + (r.outputs + due_in r.part) ≤ most_outputs
-  -- the first word and the header are in line 0
-  pub fresh : FreshIn r.part r.line
+abbrev pub Sound : Reader → Type 0
+Sound r = SoundIn r.part r
 
 -- r with the line l
 abbrev pub with_line : Reader → Line → Reader

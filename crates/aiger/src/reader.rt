@@ -2,7 +2,7 @@
 
 ghost use Rattle.std.specs.Prelude.{◌≡◌, ℕ, ◌+◌, ◌<◌, ◌≤◌, List, [], IfOk, None, Ok, Err, MatchResult, length};
 ghost use Rattle.aiger.specs.Reads.{read};
-ghost use Rattle.aiger.specs.States.{Begins, drawn, go_on, Sound, Steps};
+ghost use Rattle.aiger.specs.States.{Begins, drawn, First, go_on, Heading, Row, Sound, Steps};
 ghost use Rattle.aiger.specs.Text.{text as text_of};
 ghost use Rattle.aiger.specs.declared.part.Part.TheVariants.{Word, Header as InHeader, Lines};
 ghost use Rattle.drawing.specs.Drawing.{most_outputs};
@@ -89,7 +89,7 @@ impl Reader {
 
     /// A letter of the first word, behind so many others.
     fn letter(&mut self, letters: usize, byte: u8) -> Result<(), Fault>
-        requires { (Sound self.old) × (self.old.part ≡ Word letters) }
+        requires { (self.old.part ≡ Word letters) × (First letters self.old.line) }
         ensures { Steps self.old byte result self.new }
     {
         if byte != WORD[letters] {
@@ -97,15 +97,15 @@ impl Reader {
         }
         if letters < 3 {
             self.part = Part::Word(letters + 1);
-            return Ok(());
+        } else {
+            self.part = Part::Header;
         }
-        self.part = Part::Header;
         Ok(())
     }
 
     /// The header's figures end here.
     fn header(&mut self) -> Result<(), Fault>
-        requires { (Sound self.old) × (self.old.part ≡ InHeader) }
+        requires { (self.old.part ≡ InHeader) × (Heading self.old.line) }
         ensures { Steps self.old 10 result self.new }
     {
         let figures = self.line.close()?;
@@ -124,7 +124,7 @@ impl Reader {
 
     /// The literals of a line end here.
     fn literals(&mut self, kind: Kind) -> Result<(), Fault>
-        requires { (Sound self.old) × (self.old.part ≡ Lines kind) }
+        requires { (self.old.part ≡ Lines kind) × (Row kind self.old) }
         ensures { Steps self.old 10 result self.new }
     {
         let misplaced = self.line.misplaced();

@@ -16,7 +16,6 @@ returns-then-self-gt0 c =
         sound = record {
           fields = omega (arith, ap length none.0, ap (λ v. length v.items) q.numbers, q.more, w);
           outputs = omega arith;
-          fresh = tt;
         };
         same = next_line r none l q.pos q.numbers q.number q.row q.start Inputs (r.inputs - 1) r.outputs r.gates (q.more ∙ w) (ap (λ i. plan i r.outputs r.gates) e);
       };
@@ -35,7 +34,6 @@ returns-then-self-gt0-2 c =
         sound = record {
           fields = omega (arith, ap length none.0, ap (λ v. length v.items) q.numbers, q.more, w);
           outputs = omega arith;
-          fresh = tt;
         };
         same = next_line r none l q.pos q.numbers q.number q.row q.start Outputs r.inputs (r.outputs - 1) r.gates (q.more ∙ w) ((λ i. plan (z i) (e i) r.gates) ∙ ap (λ i. Outputs ∷ plan i (r.outputs - 1) r.gates) (sym z));
       };
@@ -55,7 +53,6 @@ returns-then-self-gt0-3 c =
         sound = record {
           fields = omega (arith, ap length none.0, ap (λ v. length v.items) q.numbers, q.more, w);
           outputs = omega arith;
-          fresh = tt;
         };
         same = next_line r none l q.pos q.numbers q.number q.row q.start Gates r.inputs r.outputs (r.gates - 1) (q.more ∙ w) ((λ i. plan (z i) (y i) (e i)) ∙ (λ i. Gates ∷ plan (sym z i) (sym y i) (r.gates - 1)));
       };
