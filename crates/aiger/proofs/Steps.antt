@@ -68,13 +68,13 @@ module _ (l : Line) (f : Fault) (is : f ≡ broken_at l) where
 
 -- the number v is whole, and ns are the numbers with it
 module _ (l : Line) (v : ℕ) (is : l.number ≡ Some v) (ns : List ℕ) (put : ns ≡ l.numbers.items ++ v ∷ []) where
-  pub spaces : (m : Line) → Stays l m → m.more ≡ l.more - 1 → m.numbers.items ≡ ns → m.number ≡ None → 0 < l.more → Goes l 32 m
-  spaces m stays more items number h =
+  pub spaces : (b : ℕ) → b ≡ 32 → (m : Line) → Stays l m → m.more ≡ l.more - 1 → m.numbers.items ≡ ns → m.number ≡ None → 0 < l.more → Goes l b m
+  spaces b byte m stays more items number h =
       record {
         stays = stays;
         fields = omega (arith, ap length (items ∙ put), length_push l.numbers.items v);
         same = λ bs.
-            scans l 32 (Space v) (ap (λ n. act l.more n 32) is ∙ act_space l.more v h) bs
+            ap (λ x. scan_on l (x ∷ bs)) byte ∙ scans l 32 (Space v) (ap (λ n. act l.more n 32) is ∙ act_space l.more v h) bs
             ∙ (λ i. scan (sym more i) (sym (items ∙ put) i) (sym number i) (l.pos + 1) bs);
       }
 

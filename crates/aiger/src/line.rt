@@ -92,57 +92,38 @@ impl Line {
         }
     }
 
-    /// The number that ends here.
-    fn whole(&self) -> Result<u16, Fault>
-        ensures { MatchResult result (λ v. self.now.number ≡ Some v) (λ f. (self.now.number ≡ None) × (f ≡ broken_at self.now)) }
-    {
-        match self.number {
-            Some(v) => Ok(v),
-            None => Err(self.broken()),
-        }
-    }
-
-    /// The number that ends here is the next of the line.
-    fn space(&mut self) -> Result<(), Fault>
-        ensures { MatchResult result (λ _. Goes self.old 32 self.new) (λ f. Breaks self.old 32 f) }
-    {
-        if self.more == 0 {
-            return Err(self.broken());
-        }
-        let number = self.whole()?;
-        self.numbers.push(number);
-        self.more -= 1;
-        self.number = None;
-        Ok(())
-    }
-
     /// One more byte of the line, other than the one that ends it.
     pub(crate) fn take(&mut self, byte: u8) -> Result<(), Fault>
         requires { byte ≢ 10 }
         ensures { MatchResult result (λ _. Goes self.old byte self.new) (λ f. Breaks self.old byte f) }
     {
-        if byte == b' ' {
-            return self.space();
+        match (byte, self.number) {
+            (b'0'..=b'9', _) => {
+                self.number = Some(self.digit(byte)?);
+                Ok(())
+            }
+            (b' ', Some(number)) if self.more > 0 => {
+                self.numbers.push(number);
+                self.more -= 1;
+                self.number = None;
+                Ok(())
+            }
+            _ => Err(self.broken()),
         }
-        if byte < b'0' || byte > b'9' {
-            return Err(self.broken());
-        }
-        let number = self.digit(byte)?;
-        self.number = Some(number);
-        Ok(())
     }
 
     /// The byte that ends the line: all its numbers.
     pub(crate) fn close(&mut self) -> Result<ArrayVec<u16, 5>, Fault>
         ensures { MatchResult result (λ v. Closes self.old v.items self.new) (λ f. Breaks self.old 10 f) }
     {
-        if self.more > 0 {
-            return Err(self.broken());
+        match self.number {
+            Some(number) if self.more == 0 => {
+                let mut numbers = mem::take(&mut self.numbers);
+                numbers.push(number);
+                self.number = None;
+                Ok(numbers)
+            }
+            _ => Err(self.broken()),
         }
-        let number = self.whole()?;
-        let mut numbers = mem::take(&mut self.numbers);
-        numbers.push(number);
-        self.number = None;
-        Ok(numbers)
     }
 }

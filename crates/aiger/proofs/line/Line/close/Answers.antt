@@ -1,17 +1,16 @@
 use Rattle.std.proofs.Common.{◌++◌, ◌∷◌, [], refl, ap, ◌∙◌, arith}
-use Rattle.std.proofs.lemmas.Result.{err_from_is_err_and}
 use Rattle.aiger.proofs.Steps.{newline_early, newline_first, closes_line}
+use Rattle.aiger.proofs.line.Line.close.Goals.{in_default-via-in-Some+else-self-eq0, in_default-via-in_default}
 use Rattle.aiger.proofs.line.Line.close.Goals as goal
 
-pub returns-then-self-gt0 : goal.returns-then-self-gt0
-returns-then-self-gt0 c = newline_early c.args.self.now c.broken.result c.broken.ensures c.if-self-gt0.true
+pub returns-in-Some : goal.returns-in-Some
+returns-in-Some c =
+    let v = c.in-Some.number in
+    closes_line c.args.self.now v c.in-Some.is _ (c.push.ensures.items ∙ ap (λ w. w.items ++ v ∷ []) c.take-numbers.ensures.value) _ (record { row = refl; start = refl; on = refl }) c.take-numbers.ensures.after refl (omega arith)
 
-pub returns-in_err-number : goal.returns-in_err-number
-returns-in_err-number c =
-    let h = c.in_err-number.ensures in
-    let p = err_from_is_err_and c.from_residual.result c.from_residual.ensures.1 in
-    rw (p.1, p.2) (newline_first c.args.self.now _ h.1 h.0)
-
-pub returns : goal.returns
-returns c =
-    closes_line c.args.self.now c.in_ok-number.number c.in_ok-number.ensures _ (c.push.ensures.items ∙ ap (λ v. v.items ++ c.in_ok-number.number ∷ []) c.take-numbers.ensures.value) _ (record { row = refl; start = refl; on = refl }) c.take-numbers.ensures.after refl (omega arith)
+pub returns-in_default : goal.returns-in_default
+returns-in_default c =
+    elim c.in_default.branch [
+      | in_default-via-in-Some+else-self-eq0 w ↦ newline_early c.args.self.now c.broken.result c.broken.ensures (omega arith)
+      | in_default-via-in_default w ↦ newline_first c.args.self.now c.broken.result c.broken.ensures w.in_default.is
+    ]
