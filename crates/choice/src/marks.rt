@@ -68,15 +68,16 @@ impl Edges for Table {
     }
 }
 
-/// From a gate to the leaves of its cut, of which there is one for each node.
-#[derive(Drop)]
-struct Cuts<'a> {
-    table: &'a Table,
-    cuts: &'a [Cut],
+/// A drawing, and the cut that each node takes, with no leaves where it takes none.
+#[derive(Clone, Copy)]
+pub struct Taken<'a> {
+    pub table: &'a Table,
+    pub cuts: &'a [Cut],
     ghost each: { length (drawing_of table.now).nodes ≤ length cuts.now },
 }
 
-impl<'a> Edges for Cuts<'a> {
+/// From a gate to the leaves of its cut.
+impl<'a> Edges for Taken<'a> {
     ghost leads = { λ e. edges_by (drawing_of e.table.now).nodes (sets_of e.cuts.now) };
 
     fn mark_from(&self, v: usize, marks: &mut [bool]) {
@@ -93,6 +94,7 @@ fn sweep<E: Edges>(table: &Table, edges: &E) -> [bool; 256]
 {
     let mut marks = [false; MOST_NODES];
     mark(table.outputs(), &mut marks);
+    // by number, since the marks of lower nodes are set on the way down
     for v in (0..table.nodes().len()).rev() {
         if marks[v] {
             edges.mark_from(v, &mut marks);
@@ -108,12 +110,11 @@ pub fn reached(table: &Table) -> [bool; 256]
     sweep(table, table)
 }
 
-/// Marks each node that the outputs reach through the cuts, of which there is one for each node: a gate leads to the leaves of
-/// its cut, and no other node leads on. A gate is a cell if it is marked.
-pub fn reached_by(table: &Table, cuts: &[Cut]) -> [bool; 256]
-    requires each { length (drawing_of table.now).nodes ≤ length cuts.now }
-    requires under { (v : ℕ) → v < length (drawing_of table.now).nodes → below v (edges_by (drawing_of table.now).nodes (sets_of cuts.now) v) ≡ true }
-    ensures { Marks (edges_by (drawing_of table.now).nodes (sets_of cuts.now)) (length (drawing_of table.now).nodes) (drawing_of table.now).outputs result }
+/// Marks each node that the outputs reach through the cuts: a gate leads to the leaves of its cut, and no other node leads on. A gate
+/// is a cell if it is marked.
+pub fn reached_by(taken: &Taken<'_>) -> [bool; 256]
+    requires { (v : ℕ) → v < length (drawing_of taken.now.table.now).nodes → below v (edges_by (drawing_of taken.now.table.now).nodes (sets_of taken.now.cuts.now) v) ≡ true }
+    ensures { Marks (edges_by (drawing_of taken.now.table.now).nodes (sets_of taken.now.cuts.now)) (length (drawing_of taken.now.table.now).nodes) (drawing_of taken.now.table.now).outputs result }
 {
-    sweep(table, &Cuts { table, cuts })
+    sweep(taken.table, taken)
 }

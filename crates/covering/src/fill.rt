@@ -15,8 +15,7 @@ ghost use Rattle.drawing.specs.Values.{inputs_of};
 
 use cells::cover::Cover;
 use cells::table::Cone;
-use choice::marks::reached_by;
-use cuts::cut::Cut;
+use choice::marks::{Taken, reached_by};
 use drawing::table::Table;
 use family::Family;
 
@@ -34,12 +33,13 @@ fn put_inputs(table: &Table, cover: &mut Cover)
 }
 
 /// Puts a cell for each gate that is marked behind the inputs, by its cut.
-fn put_cells(table: &Table, cuts: &[Cut], marks: &[bool; 256], cover: &mut Cover)
-    requires each { length (drawing_of table.now).nodes ≤ length cuts.now }
-    requires stands { Rival (drawing_of table.now).nodes [] most_leaves (marked_gate (drawing_of table.now).nodes marks.now) (set_at (sets_of cuts.now)) }
-    requires bare { netlist_of cover.old ≡ netlist (inputs_of (drawing_of table.now).nodes) [] [] }
-    ensures { netlist_of cover.new ≡ cover_up_to (drawing_of table.now).nodes (marked_gate (drawing_of table.now).nodes marks.now) (set_at (sets_of cuts.now)) (length (drawing_of table.now).nodes) }
+fn put_cells(taken: &Taken<'_>, marks: &[bool; 256], cover: &mut Cover)
+    requires stands { Rival (drawing_of taken.now.table.now).nodes [] most_leaves (marked_gate (drawing_of taken.now.table.now).nodes marks.now) (set_at (sets_of taken.now.cuts.now)) }
+    requires bare { netlist_of cover.old ≡ netlist (inputs_of (drawing_of taken.now.table.now).nodes) [] [] }
+    ensures { netlist_of cover.new ≡ cover_up_to (drawing_of taken.now.table.now).nodes (marked_gate (drawing_of taken.now.table.now).nodes marks.now) (set_at (sets_of taken.now.cuts.now)) (length (drawing_of taken.now.table.now).nodes) }
 {
+    let table = taken.table;
+    let cuts = taken.cuts;
     let drawn = table.sound_nodes();
     let nodes = table.nodes();
     for (v, node) in nodes.iter().enumerate() {
@@ -67,24 +67,18 @@ fn put_outputs(table: &Table, cover: &mut Cover)
 }
 
 /// Fills the cover, whatever it held, with the chosen cover of a drawing, from the cuts that its needed gates take, and answers the number
-/// of cells. `cuts` has a cut for each node, with no leaves where the node is no needed gate. The family and the width say which cuts these are.
-pub fn fill<F: Family>(
-    family: &F,
-    table: &Table,
-    width: u8,
-    cuts: &[Cut],
-    cover: &mut Cover,
-) -> usize
+/// of cells. The family and the width say which cuts these are.
+pub fn fill<F: Family>(family: &F, taken: &Taken<'_>, width: u8, cover: &mut Cover) -> usize
     requires wide { (2 ≤ width) × (width ≤ most_leaves) }
-    requires each { length (drawing_of table.now).nodes ≤ length cuts.now }
-    requires taken { Chosen (F.delay family.now) (drawing_of table.now).nodes (drawing_of table.now).outputs width (length (drawing_of table.now).nodes) (sets_of cuts.now) }
-    ensures netlist { netlist_of cover.new ≡ chosen (F.delay family.now) (drawing_of table.now) width }
-    ensures count { result ≡ length (chosen_cells (F.delay family.now) (drawing_of table.now).nodes width (drawing_of table.now).outputs) }
+    requires taken { Chosen (F.delay family.now) (drawing_of taken.now.table.now).nodes (drawing_of taken.now.table.now).outputs width (length (drawing_of taken.now.table.now).nodes) (sets_of taken.now.cuts.now) }
+    ensures netlist { netlist_of cover.new ≡ chosen (F.delay family.now) (drawing_of taken.now.table.now) width }
+    ensures count { result ≡ length (chosen_cells (F.delay family.now) (drawing_of taken.now.table.now).nodes width (drawing_of taken.now.table.now).outputs) }
 {
-    let marks = reached_by(table, cuts);
+    let table = taken.table;
+    let marks = reached_by(taken);
     cover.clear();
     put_inputs(table, cover);
-    put_cells(table, cuts, &marks, cover);
+    put_cells(taken, &marks, cover);
     put_outputs(table, cover);
     cover.cells().len()
 }

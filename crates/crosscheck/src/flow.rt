@@ -153,6 +153,7 @@ impl Survey<'_> {
         let mut inside = [false; 256];
         let mut entries = Vec::new(self.alloc);
         inside[v as usize] = true;
+        // by number, since lower nodes come inside on the way down
         for u in (0..=v).rev() {
             if inside[u as usize]
                 && let Some(fanins) = self.drawing.fanins(u)
@@ -210,6 +211,7 @@ pub fn levels_of(
         width,
         levels: [0; 256],
     };
+    // by number, since a level is worked out from those below it
     for (v, needed) in (0..=255u8).zip(needed) {
         if *needed {
             survey.levels[v as usize] = survey.level(v)?;

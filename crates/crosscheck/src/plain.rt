@@ -51,6 +51,7 @@ impl Plain<'_> {
         for literal in self.outputs {
             reached[node_of(*literal) as usize] = true;
         }
+        // by number, since the marks of lower nodes are set on the way down
         for v in (0..=255u8).rev() {
             if reached[v as usize]
                 && let Some(fanins) = self.fanins(v)
@@ -68,6 +69,7 @@ impl Plain<'_> {
     pub fn simulate(&self, row: &[u8]) -> [u8; 256] {
         let mut values = [0u8; 256];
         let mut row = row.iter();
+        // by number, since a gate's value is worked out from those below it
         for (v, node) in (0..=255u8).zip(self.nodes) {
             values[v as usize] = match node {
                 Node::Constant => 0,

@@ -10,7 +10,7 @@ use arrayvec::ArrayVec;
 use calls::{MOST_NODES, MOST_OUTPUTS};
 
 /// A lawful drawing: its nodes by number, and its outputs' literals in their order.
-#[derive(Drop)]
+#[derive(Debug, PartialEq, Eq, Drop)]
 pub struct Table {
     nodes: ArrayVec<Node, MOST_NODES>,
     outputs: ArrayVec<u16, MOST_OUTPUTS>,

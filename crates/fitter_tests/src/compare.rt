@@ -1,6 +1,5 @@
 //! Making jobs, mapping them, and comparing what they hold.
 
-use aiger::write;
 use cells::cover::Cover;
 use cuts::cut::Cut;
 use drawing::node::Pair;
@@ -31,7 +30,7 @@ pub fn made(inputs: u8, gates: &[(u16, u16)], outputs: &[u16], width: u8) -> Res
 }
 
 /// What a map fills: the cover, and the arrivals of all nodes.
-#[derive(Drop)]
+#[derive(PartialEq, Drop)]
 pub struct Mapped<A: Copy> {
     pub cover: Cover,
     pub arrivals: [A; 256],
@@ -61,31 +60,6 @@ impl Mapped<u16> {
     pub fn map_levels(&mut self, job: &mut Job) -> Result<(usize, usize), Refusal> {
         self.map(job, &Levels::new(job.present_width())?)
     }
-
-    /// Whether both hold the same cover and the same levels.
-    pub fn same(&self, other: &Mapped<u16>) -> bool {
-        same_cover(&self.cover, &other.cover) && self.arrivals == other.arrivals
-    }
-}
-
-/// Whether the drawings have one text.
-pub fn same_drawing(left: &Job, right: &Job) -> bool {
-    let mut one = [0; 4376];
-    let mut other = [0; 4376];
-    match (
-        write(left.table(), &mut one),
-        write(right.table(), &mut other),
-    ) {
-        (Ok(length), Ok(again)) => length == again && one == other,
-        _ => false,
-    }
-}
-
-/// Whether the covers are equal.
-fn same_cover(left: &Cover, right: &Cover) -> bool {
-    left.inputs() == right.inputs()
-        && left.cells() == right.cells()
-        && left.outputs() == right.outputs()
 }
 
 /// Whether a cut of the list has these leaves.

@@ -2,7 +2,7 @@
 
 ghost use Rattle.std.specs.Iterator.{IsFinite};
 
-use crate::compare::{Mapped, made, pair, same_drawing, same_kept};
+use crate::compare::{Mapped, made, pair, same_kept};
 use aiger::write;
 use drawing::refusal::Refusal;
 use family::Family;
@@ -45,7 +45,7 @@ fn agree(job: &mut Job, twin: &mut Job) -> Result<bool, Refusal> {
     let (cells, _) = mapped.map_levels(job)?;
     let mut other = Mapped::filled(0);
     let (again, _) = other.map_levels(twin)?;
-    Ok(cells == again && same_drawing(job, twin) && mapped.same(&other) && same_kept(job, twin))
+    Ok(cells == again && job.table() == twin.table() && mapped == other && same_kept(job, twin))
 }
 
 /// Loads the text of the other job's drawing.

@@ -48,33 +48,13 @@ impl<T: Into<Answer>> From<Result<T, Refusal>> for Answer {
     }
 }
 
-/// A refusal with its number and, where it has one, its place.
-#[derive(Clone, Copy)]
-struct Shown(Refusal);
-
-impl fmt::Display for Shown {
-    fn fmt<W: fmt::Write>(&self, f: &mut fmt::Formatter<W>) -> fmt::Result {
-        let number = self.0.number();
-        match self.0 {
-            Refusal::Text(fault) => {
-                let byte = fault.byte;
-                let line = fault.line;
-                write!(f, "refused {number} at {byte} line {line}")
-            }
-            Refusal::Crowded(gate) => write!(f, "refused {number} at {gate}"),
-            Refusal::BadBit(index) => write!(f, "refused {number} at {index}"),
-            _ => write!(f, "refused {number}"),
-        }
-    }
-}
-
 impl fmt::Display for Answer {
     fn fmt<W: fmt::Write>(&self, f: &mut fmt::Formatter<W>) -> fmt::Result {
         match *self {
             Answer::Done => write!(f, "ok"),
             Answer::Added(number) => write!(f, "ok {number}"),
             Answer::Counted(first, second) => write!(f, "ok {first} {second}"),
-            Answer::Refused(refusal) => write!(f, "{}", Shown(refusal)),
+            Answer::Refused(refusal) => write!(f, "{refusal}"),
             Answer::Nothing => write!(f, "nothing"),
             Answer::NotKept => write!(f, "none"),
             Answer::Unknown => write!(f, "unknown"),

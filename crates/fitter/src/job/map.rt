@@ -8,7 +8,7 @@ ghost use Rattle.std.specs.Prelude.{List, length};
 
 use super::Job;
 use cells::cover::Cover;
-use choice::marks::reached;
+use choice::marks::{Taken, reached};
 use covering::fill::fill;
 use drawing::refusal::Refusal;
 use family::Family;
@@ -36,7 +36,11 @@ impl Job {
         let made = self.make_lists(&marks)?;
         let cuts = self.take_cuts(family, &marks, arrivals);
         let job = &*self;
-        let cells = fill(family, &job.table, job.width, &cuts, cover);
+        let taken = Taken {
+            table: &job.table,
+            cuts: &cuts,
+        };
+        let cells = fill(family, &taken, job.width, cover);
         Ok((cells, made))
     }
 }

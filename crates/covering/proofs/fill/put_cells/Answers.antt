@@ -16,18 +16,18 @@ use Rattle.covering.proofs.fill.put_cells.Goals.{then-is_gate+then-marks-v, else
 
 pub push_gate-requires : goal.push_gate-requires
 push_gate-requires c =
-    let nodes = (drawing_of c.args.table.now).nodes in
+    let nodes = (drawing_of c.args.taken.now.table.now).nodes in
     let picked = marked_gate nodes c.args.marks.now in
-    let given = set_at (sets_of c.args.cuts.now) in
+    let given = set_at (sets_of c.args.taken.now.cuts.now) in
     let v = c.loop-v.v in
-    let w = table_says c.args.table.now in
+    let w = table_says c.args.taken.now.table.now in
     let right = w.nodes_sound in
     let inside : v < length nodes = omega (arith, ap length c.nodes-nodes.ensures) in
     let few = le_refl most_leaves in
     let R = c.requires.stands in
     let here = and_from _ _ (subst (λ ns. is_gate (at ns v) ≡ true) c.nodes-nodes.ensures (sym c.if-is_gate.ensures)) c.if-marks-v.true in
     let e = sym c.loop-v.invariant in
-    let ls = sym (c.leaves.ensures ∙ stored_at leaves_of c.args.cuts.now v c.index-cuts-v.result (omega arith) c.index-cuts-v.is) in
+    let ls = sym (c.leaves.ensures ∙ stored_at leaves_of c.args.taken.now.cuts.now v c.index-cuts-v.result (omega arith) c.index-cuts-v.is) in
     record {
       room = subst (λ (n : Netlist). length n.cells < most_cells) e (omega (arith, piece_room nodes [] most_leaves picked given right few R v here w.nodes_few, w.nodes_few));
       positive = piece_positive nodes [] most_leaves picked given right few R v here;
@@ -39,29 +39,29 @@ push_gate-requires c =
 
 pub invariant_of-cone : goal.invariant_of-cone
 invariant_of-cone c =
-    let nodes = (drawing_of c.args.table.now).nodes in
+    let nodes = (drawing_of c.args.taken.now.table.now).nodes in
     let picked = marked_gate nodes c.args.marks.now in
-    let given = set_at (sets_of c.args.cuts.now) in
+    let given = set_at (sets_of c.args.taken.now.cuts.now) in
     let v = c.loop-v.v in
     let here = and_from _ _ (subst (λ ns. is_gate (at ns v) ≡ true) c.nodes-nodes.ensures (sym c.if-is_gate.ensures)) c.if-marks-v.true in
-    let ls = sym (c.leaves.ensures ∙ stored_at leaves_of c.args.cuts.now v c.index-cuts-v.result (omega (arith, ap length c.nodes-nodes.ensures)) c.index-cuts-v.is) in
+    let ls = sym (c.leaves.ensures ∙ stored_at leaves_of c.args.taken.now.cuts.now v c.index-cuts-v.result (omega (arith, ap length c.nodes-nodes.ensures)) c.index-cuts-v.is) in
     record {
       there = omega (arith, ap length c.sound_nodes-drawn.ensures, ap length c.nodes-nodes.ensures);
-      few = subst (λ (s : List ℕ). length s ≤ most_leaves) ls (piece_few nodes [] most_leaves picked given (table_says c.args.table.now).nodes_sound (le_refl most_leaves) c.requires.stands v here);
+      few = subst (λ (s : List ℕ). length s ≤ most_leaves) ls (piece_few nodes [] most_leaves picked given (table_says c.args.taken.now.table.now).nodes_sound (le_refl most_leaves) c.requires.stands v here);
     }
 
 pub loop-v-preserved : goal.loop-v-preserved
 loop-v-preserved c =
-    let nodes = (drawing_of c.args.table.now).nodes in
+    let nodes = (drawing_of c.args.taken.now.table.now).nodes in
     let picked = marked_gate nodes c.args.marks.now in
-    let given = set_at (sets_of c.args.cuts.now) in
+    let given = set_at (sets_of c.args.taken.now.cuts.now) in
     let v = c.loop-v.v in
     let e = c.nodes-nodes.ensures in
     let inside : v < length nodes = omega (arith, ap length e) in
     let gate : (b : Bool) → b ≡ is_gate (at c.nodes-nodes.result.now v) → is_gate (at nodes v) ≡ b = λ b h. sym (h ∙ ap (λ ns. is_gate (at ns v)) e) in
     elim c.if-is_gate.branch [
       | then-is_gate+then-marks-v w ↦
-          let ls = w.leaves.ensures ∙ stored_at leaves_of c.args.cuts.now v w.index-cuts-v.result (omega arith) w.index-cuts-v.is in
+          let ls = w.leaves.ensures ∙ stored_at leaves_of c.args.taken.now.cuts.now v w.index-cuts-v.result (omega arith) w.index-cuts-v.is in
           ap netlist_of w.cover-is ∙ w.push_gate.ensures ∙ ap (λ ns. with_cell (netlist_of c.loop-v.cover) (cell_of ns v w.leaves.result.now)) c.sound_nodes-drawn.ensures ∙ ap (λ n. with_cell n (cell_of nodes v w.leaves.result.now)) c.loop-v.invariant
           ∙ ap (λ s. with_cell (cover_up_to nodes picked given v) (cell_of nodes v s)) ls
           ∙ sym (upto_more nodes picked given v (and_from _ _ (gate true w.if-is_gate.ensures) w.if-marks-v.true))
@@ -76,6 +76,6 @@ loop-v-preserved c =
 
 pub returns : goal.returns
 returns c =
-    let nodes = (drawing_of c.args.table.now).nodes in
+    let nodes = (drawing_of c.args.taken.now.table.now).nodes in
     let e : c.loop-v.v ≡ length nodes = omega (arith, ap length c.nodes-nodes.ensures) in
-    c.loop-v.invariant ∙ ap (cover_up_to nodes (marked_gate nodes c.args.marks.now) (set_at (sets_of c.args.cuts.now))) e
+    c.loop-v.invariant ∙ ap (cover_up_to nodes (marked_gate nodes c.args.marks.now) (set_at (sets_of c.args.taken.now.cuts.now))) e

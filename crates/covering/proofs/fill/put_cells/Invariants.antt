@@ -8,5 +8,5 @@ use Rattle.covering.proofs.fill.put_cells.Given as goal
 -- the cells so far
 abbrev pub invariant-loop-v : goal.invariant-loop-v
 invariant-loop-v l =
-    let nodes = (drawing_of l.table).nodes in
-    netlist_of l.cover ≡ cover_up_to nodes (marked_gate nodes l.marks) (set_at (sets_of l.cuts)) l.v
+    let nodes = (drawing_of l.taken.table.now).nodes in
+    netlist_of l.cover ≡ cover_up_to nodes (marked_gate nodes l.marks) (set_at (sets_of l.taken.cuts.now)) l.v
