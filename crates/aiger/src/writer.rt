@@ -1,6 +1,6 @@
 //! The writer of a drawing's text.
 
-ghost use Rattle.std.specs.Prelude.{◌≡◌, ℕ, ◌^◌, ◌<◌, List, ◌++◌};
+ghost use Rattle.std.specs.Prelude.{ℕ, ◌^◌, ◌<◌, List, ◌++◌};
 ghost use Rattle.std.specs.List.{flat_map};
 ghost use Rattle.aiger.specs.Writes.{Copied};
 ghost use Rattle.aiger.specs.Text.{gate_row, heading, input_row, line_of, output_rows, rows, text, word as aag};

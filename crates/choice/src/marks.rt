@@ -2,7 +2,7 @@
 
 ghost use Rattle.std.specs.Prelude.{◌≡◌, ℕ, ◌<◌, ◌≤◌, List, true, map, length};
 ghost use Rattle.choice.specs.Marks.{edges_by, mark_all, Marks};
-ghost use Rattle.cuts.specs.Leaves.{leaves_of, sets_of};
+ghost use Rattle.cuts.specs.Leaves.{sets_of};
 ghost use Rattle.drawing.specs.Drawing.{at, fanins, node_of};
 ghost use Rattle.drawing.specs.Sets.{below};
 ghost use Rattle.drawing.specs.Tables.{drawing_of};

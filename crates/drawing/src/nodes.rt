@@ -1,6 +1,6 @@
 //! The nodes of a drawing, lent.
 
-ghost use Rattle.std.specs.Prelude.{◌≡◌, true, length};
+ghost use Rattle.std.specs.Prelude.{◌≡◌, true};
 ghost use Rattle.drawing.specs.Drawing.{at, sound};
 
 use crate::node::Node;

@@ -2,7 +2,7 @@
 
 ghost use Rattle.std.specs.Prelude.{◌≡◌, ◌<◌, ◌≤◌, true, length, slice_index_or};
 ghost use Rattle.drawing.specs.Sets.{below};
-ghost use Rattle.family.specs.Family.{cell_arrival, later_of, latest_among, latest_from};
+ghost use Rattle.family.specs.Family.{cell_arrival, later_of, latest_among};
 ghost use Rattle.drawing.specs.Drawing.{most_leaves};
 ghost use Rattle.family.specs.Folds.{CellNotLater, LatestIsLast, LatestRises, MoreNotEarlier, PartNotLater};
 

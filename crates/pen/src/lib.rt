@@ -2,7 +2,7 @@
 //! buffer only counts.
 #![tactic(auto)]
 
-ghost use Rattle.std.specs.Prelude.{◌≡◌, ◌<◌, [], ◌∷◌, length, decimal};
+ghost use Rattle.std.specs.Prelude.{◌≡◌, ◌<◌, [], ◌∷◌, decimal};
 ghost use Rattle.pen.specs.Wrote.{Wrote};
 
 /// The buffer, and the place of the next byte. The count stops at `usize::MAX`, which no buffer reaches.

@@ -1,8 +1,8 @@
 //! Making a drawing, and reading it.
 
-ghost use Rattle.std.specs.Prelude.{◌≡◌, ◌≤◌, true, ◌<◌, ◌++◌, ◌∷◌, [], length};
+ghost use Rattle.std.specs.Prelude.{◌≡◌, true, ◌<◌, ◌++◌, ◌∷◌, [], length};
 ghost use Rattle.drawing.specs.Calls.{after_gate, after_input, after_output, after_retie, gate_answer, input_answer, output_answer, retie_answer, Unless};
-ghost use Rattle.drawing.specs.Drawing.{at, drawing, is_gate, lawful, most_nodes, most_outputs, names, new_drawing, sound_at};
+ghost use Rattle.drawing.specs.Drawing.{at, drawing, is_gate, lawful, most_nodes, names, new_drawing, sound_at};
 ghost use Rattle.drawing.specs.Tables.{drawing_of};
 
 use super::Table;
