@@ -26,9 +26,6 @@ module _ (i j : Job) (made : ℕ) (r : Ready i made j) where
       let l = gate_range (book_of i).drawing.nodes u (and_parts (is_gate (at (book_of i).drawing.nodes u)) _ n').0 in
       r.kept u ∙ or_right (is_kept i u) _ (and_from _ _ (lt-ltb u (size (book_of i)) l) n')
 
-  pub ready_marked : (marks : List Bool) → MarksNeeded (book_of i).drawing marks → MarksNeeded (book_of j).drawing marks
-  ready_marked marks m = subst (λ b. MarksNeeded b.drawing marks) (sym r.same) m
-
   pub ready_room : (n : ℕ) → size (book_of i) ≤ n → size (book_of j) ≤ n
   ready_room n l = subst (λ b. size b ≤ n) (sym r.same) l
 

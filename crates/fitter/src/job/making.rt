@@ -8,6 +8,7 @@ ghost use Rattle.fitter.specs.Jobs.{book_of};
 ghost use Rattle.fitter.specs.Making.{FaninsKept, KeptUpTo, Making, MakingAll, MakingNeeded, MarksNeeded};
 
 use super::Job;
+use choice::marks::reached;
 use cuts::list::{CutList, make_list};
 use drawing::node::Node;
 use drawing::refusal::Refusal;
@@ -65,13 +66,14 @@ impl Job {
     }
 
     /// Makes and keeps the lists that the needed gates lack, by rising number, and answers how many these were.
-    pub(crate) fn make_lists(&mut self, marks: &[bool; 256]) -> Result<usize, Refusal>
-        requires { MarksNeeded (book_of self.old).drawing marks.now }
+    pub(crate) fn make_lists(&mut self) -> Result<usize, Refusal>
         ensures { MakingAll self.old result self.new }
     {
+        let marks = reached(&self.table);
         let mut made = 0;
+        // by number, since making a list changes the job, whose nodes could not be lent meanwhile
         for v in 0..self.table.nodes().len() {
-            if self.make_needed(v as u8, marks)? {
+            if self.make_needed(v as u8, &marks)? {
                 made += 1;
             }
         }

@@ -8,7 +8,7 @@ ghost use Rattle.std.specs.Prelude.{List, length};
 
 use super::Job;
 use cells::cover::Cover;
-use choice::marks::{Taken, reached};
+use choice::marks::Taken;
 use covering::fill::fill;
 use drawing::refusal::Refusal;
 use family::Family;
@@ -32,9 +32,8 @@ impl Job {
         if arrivals.len() < self.table.nodes().len() {
             return Err(Refusal::TooShort);
         }
-        let marks = reached(&self.table);
-        let made = self.make_lists(&marks)?;
-        let cuts = self.take_cuts(family, &marks, arrivals);
+        let made = self.make_lists()?;
+        let cuts = self.take_cuts(family, arrivals);
         let job = &*self;
         let taken = Taken {
             table: &job.table,

@@ -17,7 +17,7 @@ make_needed-requires c =
     let in-range : l.v < length (book_of i).drawing.nodes = subst (λ z. l.v < length z) c.nodes-v-end.ensures c.loop-v-test.true in
     record {
       inside = inside_same i l.self l.v l.made l.invariant in-range;
-      marked = marked_same i l.self l.invariant.same c.args.marks.now c.requires;
+      marked = marked_same i l.self l.invariant.same c.reached-marks.result c.reached-marks.ensures;
       below = progress_below i l.self l.v l.made l.invariant;
     }
 

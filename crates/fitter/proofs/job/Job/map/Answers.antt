@@ -5,7 +5,7 @@ use Rattle.cells.specs.Netlists.{netlist_of}
 use Rattle.fitter.specs.Book.{size}
 use Rattle.fitter.specs.Jobs.{book_of}
 use Rattle.fitter.specs.Mapping.{Mapped}
-use Rattle.fitter.proofs.Accepting.{ready_kept, ready_marked, ready_room, map_accepted, map_stopped}
+use Rattle.fitter.proofs.Accepting.{ready_kept, ready_room, map_accepted, map_stopped}
 use Rattle.fitter.proofs.Histories.{mapped_did, mapped_answers}
 use Rattle.fitter.proofs.job.Job.map.Goals as goal
 
@@ -50,10 +50,8 @@ take_cuts-cuts-requires g c =
     let i = c.args.self.now in
     let j = c.make_lists.new.self in
     let r = c.in_ok-made.ensures in
-    let marks = c.reached-marks.result in
     let room : size (book_of i) ≤ length c.args.arrivals.now = omega (arith, ap length c.nodes.ensures, c.if-arrivals-nodes.false) in
     record {
-      marked = ready_marked i j c.in_ok-made.made r marks c.reached-marks.ensures;
       lists = ready_kept i j c.in_ok-made.made r;
       room = ready_room i j c.in_ok-made.made r (length c.args.arrivals.now) room;
     }
