@@ -23,8 +23,8 @@ impl Table {
     pub fn new() -> Table
         ensures { drawing_of result ≡ new_drawing }
     {
-        let mut nodes = ArrayVec::new();
-        nodes.push(Node::Constant);
+        let mut nodes = ArrayVec::from([Node::Constant; MOST_NODES]);
+        nodes.truncate(1);
         Table {
             nodes,
             outputs: ArrayVec::new(),
@@ -148,7 +148,8 @@ impl Table {
         if !pair.is_below(u16::from(gate)) {
             return Err(Refusal::BadLiteral);
         }
-        self.nodes[usize::from(gate)] = Node::Gate(pair);
+        let record = &mut self.nodes[usize::from(gate)];
+        *record = Node::Gate(pair);
         Ok(())
     }
 }
