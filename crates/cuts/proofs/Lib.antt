@@ -6,7 +6,6 @@ pub mod Survive
 pub mod Merge
 pub mod Unions
 pub mod Stable
-pub mod Inside
 pub mod Noting
 pub mod Choosing
 pub mod Apart
