@@ -114,6 +114,7 @@ pub fn make_list(
     // a fanin is below its gate, so its number fits
     let lefts = choices(nodes, (pair.left / 2) as u8, left);
     let rights = choices(nodes, (pair.right / 2) as u8, right);
+    // the rows are lent: `new` blanks them twice, about 1 in 100 of a map, and as an answer they were copied too
     let mut rows = Rows::new();
     enumerate(&mut rows, &lefts, &rights, width);
     CutList::try_from(rows.as_slice()).ok()

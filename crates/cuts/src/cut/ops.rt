@@ -86,6 +86,7 @@ impl Cut {
     {
         let mut a = self.leaves();
         let mut b = other.leaves();
+        // no cut before the end: to push each leaf to one made a map at width 5 about a tenth slower
         let mut leaves = [0; MOST_LEAVES];
         let mut len = 0;
         while let Some((leaf, left, right)) = lowest(a, b) {
