@@ -14,7 +14,7 @@ use Rattle.covering.specs.Chosen.{chosen}
 use Rattle.fitter.specs.declared.job.Job.{Job}
 use Rattle.fitter.specs.Book.{size, needed_in}
 use Rattle.fitter.specs.Jobs.{book_of, is_kept}
-use Rattle.fitter.specs.Making.{MarksNeeded, Ready, Stopped}
+use Rattle.fitter.specs.Making.{Ready, Stopped}
 use Rattle.fitter.specs.Taking.{AllKept, arrival_table}
 use Rattle.fitter.specs.Mapping.{Accepted, Mapped}
 
