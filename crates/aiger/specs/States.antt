@@ -28,11 +28,17 @@ misplaced_in l = record { rule = Literal; byte = l.start; line = l.row }
 
 -- m is the line l behind the byte b, where byte 10 ends the row
 pub record Passed (b : ℕ) (l m : Line) : Type 0 where
+  -- the next row, where the byte ends this one
   pub row : m.row ≡ cond (b == 10) (l.row + 1) l.row
+  -- a row begins behind that byte
   pub start : m.start ≡ cond (b == 10) (l.pos + 1) l.start
+  -- one byte on
   pub pos : m.pos ≡ l.pos + 1
+  -- as many numbers to come
   pub more : m.more ≡ l.more
+  -- the numbers stay
   pub numbers : m.numbers ≡ l.numbers
+  -- the number so far stays
   pub number : m.number ≡ l.number
 
 -- m has the row and the first byte of the line l, and stands at the same byte
@@ -61,10 +67,15 @@ pub record Breaks (l : Line) (b : ℕ) (f : Fault) : Type 0 where
 
 -- the header h announces what the figures say, which are inside the rules
 pub record Announces (figures : List ℕ) (h : Figures) : Type 0 where
+  -- the figures are inside the rules
   pub inside : headed figures ≡ true
+  -- M, the last node
   pub last : h.last ≡ slice_index figures 0
+  -- I, how many inputs
   pub inputs : h.inputs ≡ slice_index figures 1
+  -- O, how many outputs
   pub outputs : h.outputs ≡ slice_index figures 3
+  -- A, how many gates
   pub gates : h.gates ≡ slice_index figures 4
 
 -- the sheet that a draft stands for: its nodes and outputs, and the last input and gate
@@ -105,10 +116,15 @@ due Gates = 0
 
 -- n letters of the first word are read, in line 0, and no number has begun
 pub record First (n : ℕ) (l : Line) : Type 0 where
+  -- the word has four letters
   pub letters : n < 4
+  -- it stands in line 0
   pub row : l.row ≡ 0
+  -- four numbers come after the first
   pub more : l.more ≡ 4
+  -- none is read
   pub numbers : l.numbers.items ≡ []
+  -- and none has begun
   pub number : l.number ≡ None
 
 -- the line l is the header, of five figures in line 0

@@ -1,6 +1,6 @@
 //! The header of a text.
 
-ghost use Rattle.std.specs.Prelude.{◌≡◌, true, false, length, MatchOption, slice_index};
+ghost use Rattle.std.specs.Prelude.{◌≡◌, false, length, MatchOption};
 ghost use Rattle.aiger.specs.Reads.{headed};
 ghost use Rattle.aiger.specs.States.{Announces};
 

@@ -1,6 +1,7 @@
 //! The sections of the cell list.
 
-ghost use Rattle.std.specs.Prelude.{◌≡◌, ◌<◌, ◌≤◌, ◌∷◌};
+ghost use Rattle.std.specs.Prelude.{◌≡◌, ◌<◌, ◌≤◌, ◌∷◌, length};
+ghost use Rattle.cells.specs.Netlist.{leaves_of};
 ghost use Rattle.blif.specs.Meaning.{HasMeaning, Means};
 ghost use Rattle.blif.specs.Sections.{section_answer, section_count, section_text, section_writes};
 ghost use Rattle.blif.specs.Text.{cell_text, head_text, line, name, node_names, output_text, table_lines};
@@ -45,11 +46,13 @@ fn put_line(pen: &mut Pen<'_>, m: u32, count: usize)
     pen.text(b" 1\n");
 }
 
-/// The lines of a table: one for each row whose bit is 1.
-fn put_table(pen: &mut Pen<'_>, table: u32, count: usize)
-    requires { count ≤ most_leaves }
-    ensures { Wrote pen.old (table_lines table count) pen.new }
+/// The lines of a cell's table: one for each row whose bit is 1.
+fn put_table(pen: &mut Pen<'_>, cell: &Cell)
+    ensures { Wrote pen.old (table_lines cell.now.table (length (leaves_of cell.now))) pen.new }
 {
+    let table = cell.table;
+    let leaves = cell.leaves();
+    let count = leaves.len();
     for m in 0..1u32 << count {
         if (table >> m) & 1 == 1 {
             put_line(pen, m, count);
@@ -61,12 +64,11 @@ fn put_table(pen: &mut Pen<'_>, table: u32, count: usize)
 fn put_cell(pen: &mut Pen<'_>, cell: &Cell)
     ensures { Wrote pen.old (cell_text cell.now) pen.new }
 {
-    let leaves = cell.leaves();
     pen.text(b".names");
-    put_nodes(pen, leaves);
+    put_nodes(pen, cell.leaves());
     put_name(pen, b'n', usize::from(cell.root));
     pen.text(b"\n");
-    put_table(pen, cell.table, leaves.len());
+    put_table(pen, cell);
 }
 
 /// Output `k`, of this literal.

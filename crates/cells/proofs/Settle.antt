@@ -1,6 +1,6 @@
 -- The values of a netlist's names in their places, one input or cell after another.
-use Rattle.std.proofs.Common.{◌≡◌, ℕ, zero, suc, ◌+◌, ◌<◌, true, false, cond, eqb, ltb, List, [], ◌∷◌, ◌++◌, map, length, get_or, take, set, replicate, sym, refl, ap, ◌∙◌, subst, ⊎_elim, arith}
-use Rattle.std.proofs.lemmas.List.{length-map, length-take-le, map_more, take_more, get_or-set_same, get_or-set_other}
+use Rattle.std.proofs.Common.{◌≡◌, ℕ, zero, suc, ◌+◌, ◌<◌, true, false, cond, eqb, ltb, List, [], ◌∷◌, ◌++◌, map, length, get_or, take, replicate, sym, refl, ap, ◌∙◌, subst, ⊎_elim, arith}
+use Rattle.std.proofs.lemmas.List.{length-map, length-take-le, map_more, take_more}
 use Rattle.std.proofs.lemmas.Bool.{and_from, and_parts, both_ways, cases_Bool, cases_eq, cond-true, cond-false, eq-eqb, lt-ltb, ltb-true, ne_eqb, or_parts}
 use Rattle.drawing.specs.Drawing.{node_of}
 use Rattle.drawing.specs.Sets.{below, mem, rises}
@@ -12,14 +12,6 @@ use Rattle.cells.specs.Netlist.{leaves_of, plain, root_name, cell_value, look, a
 use Rattle.cells.specs.Evaluate.{Holds}
 use Rattle.cells.proofs.LeafRows.{row_same}
 use Rattle.cells.proofs.Names.{mem_plain}
-
--- a value written in the place of its name
-pub holds_set : (vs : List ℕ) (env : List (ℕ × ℕ)) (r v : ℕ) → r < length vs → Holds vs env → Holds (set vs r v) ((r, v) ∷ env)
-holds_set vs env r v h k n =
-    ⊎_elim
-    (λ (e : r ≡ n). ap (λ j. get_or (set vs r v) j 0) (sym e) ∙ get_or-set_same vs r v 0 h ∙ sym (cond-true (eqb r n) v _ (eq-eqb r n e)))
-    (λ (e : r ≡ n → ⊥). get_or-set_other vs r n v 0 (λ q. e (sym q)) ∙ k n ∙ sym (cond-false (eqb r n) v _ (ne_eqb r n e)))
-    (cases_eq r n)
 
 pub no_names : (n : ℕ) → Holds (replicate n 0) []
 no_names zero k = refl

@@ -41,20 +41,6 @@ pub fn turn(word: u32, literal: u16) -> u32
     if literal % 2 == 0 { word } else { !word }
 }
 
-/// For each node its values in all rows, where it is a leaf.
-fn pins(leaves: &[u8]) -> [Option<u32>; 256]
-    requires { length leaves.now ≤ most_leaves }
-    ensures long { length result ≡ most_nodes }
-    ensures hides { (m node d : ℕ) → m < table_bits → pinned (slice_index_or result node None) m d ≡ lookup (leaf_bits leaves.now m) node d }
-{
-    let mut pins = [None; 256];
-    for (leaf, word) in leaves.iter().zip(&LEAF_WORDS) {
-        let node = *leaf as usize;
-        pins[node] = pins[node].or(Some(*word));
-    }
-    pins
-}
-
 /// The values of a literal, by those of the nodes.
 fn literal_word(words: &[u32], literal: u16) -> u32
     requires { literal / 2 < length words.now }
@@ -88,13 +74,26 @@ fn fill(word: u32, count: usize) -> u32
 }
 
 impl<'a> Cone<'a> {
+    /// For each node its values in all rows, where it is a leaf.
+    fn pins(&self) -> [Option<u32>; 256]
+        ensures long { length result ≡ most_nodes }
+        ensures hides { (m node d : ℕ) → m < table_bits → pinned (slice_index_or result node None) m d ≡ lookup (leaf_bits self.now.leaves.now m) node d }
+    {
+        let mut pins = [None; 256];
+        for (leaf, word) in self.leaves.iter().zip(&LEAF_WORDS) {
+            let node = *leaf as usize;
+            pins[node] = pins[node].or(Some(*word));
+        }
+        pins
+    }
+
     /// The root's values in all rows: leaf j has bit j of the row's number.
     fn word(&self) -> u32
         ensures { (m : ℕ) → m < table_bits → bit result m ≡ cone self.now.nodes.now self.now.leaves.now self.now.root m }
     {
         let nodes = self.nodes;
         let up_to = &nodes.as_slice()[..=self.root as usize];
-        let pins = pins(self.leaves);
+        let pins = self.pins();
         let mut words = [0u32; 256];
         for (n, node) in up_to.iter().enumerate() {
             words[n] = match pins[n] {

@@ -1,6 +1,6 @@
 //! Keeping what is minimal, and making the list of a gate.
 
-ghost use Rattle.std.specs.Prelude.{◌≡◌, ◌+◌, ◌*◌, ◌<◌, ◌≤◌, true, [], map, length, nat_le};
+ghost use Rattle.std.specs.Prelude.{◌≡◌, ◌+◌, ◌*◌, ◌<◌, ◌≤◌, true, [], length};
 ghost use Rattle.std.specs.List.{list_any};
 ghost use Rattle.arrayvec.specs.ArrayVec.{array_vec_len};
 ghost use Rattle.cuts.specs.Antichain.{add, survivors};
@@ -10,7 +10,7 @@ ghost use Rattle.cuts.specs.Limits.{most_joins, most_ways};
 ghost use Rattle.drawing.specs.Drawing.{most_leaves};
 ghost use Rattle.cuts.specs.Lists.{AtHand, left_fanin, Made, right_fanin};
 ghost use Rattle.drawing.specs.Drawing.{at, is_gate};
-ghost use Rattle.drawing.specs.Sets.{keep, sub, union};
+ghost use Rattle.drawing.specs.Sets.{sub};
 
 use crate::cut::Cut;
 use arrayvec::ArrayVec;

@@ -1,9 +1,9 @@
 -- Sets as lists that rise: the same members make the same list, and a part is shorter.
-use Rattle.std.proofs.Common.{◌≡◌, ℕ, zero, suc, ◌+◌, ◌<◌, ◌≤◌, Bool, true, false, cond, ◌&&◌, ◌||◌, eqb, ltb, ◌⊎◌, List, [], ◌∷◌, ◌++◌, map, length, get_or, refl, ap, subst, inl, inr, ⊎_elim, arith}
+use Rattle.std.proofs.Common.{◌≡◌, ℕ, zero, suc, ◌+◌, ◌<◌, ◌≤◌, Bool, true, false, cond, ◌&&◌, ◌||◌, eqb, ltb, ◌⊎◌, List, [], ◌∷◌, ◌++◌, map, length, refl, ap, subst, inl, inr, ⊎_elim, arith}
 use Rattle.std.proofs.lemmas.Bool.{and_parts, and_from, or_cases, or_left, or_right, eqb-true, eq-eqb, both_ways, ltb-true, lt-ltb, cases_order, cond_both}
 use Rattle.std.proofs.lemmas.Bool.Decides.{nat_tests}
 use Rattle.drawing.specs.Sets.{mem, sub, rises, below, insert, union, keep, subsets, In}
-use Rattle.drawing.proofs.Members.{every_at, in_append, in_append_left, in_append_right, in_map, map_in}
+use Rattle.drawing.proofs.Members.{in_append, in_append_left, in_append_right, in_map, map_in}
 
 -- each member of s is in t
 abbrev pub Sub : List ℕ → List ℕ → Type 0
@@ -171,9 +171,6 @@ below_says n (x ∷ xs) u b m =
 pub says_below : (n : ℕ) (s : List ℕ) → ((u : ℕ) → mem u s ≡ true → u < n) → below n s ≡ true
 says_below n [] h = refl
 says_below n (x ∷ xs) h = and_from _ _ (lt-ltb x n (h x (mem_head x xs))) (says_below n xs (λ u m. h u (or_right _ _ m)))
-
-pub below_at : (n : ℕ) (s : List ℕ) (i : ℕ) → below n s ≡ true → i < length s → get_or s i 0 < n
-below_at n s i b l = ltb-true _ n (every_at (λ x. ltb x n) s i 0 b l)
 
 pub below_more : (m n : ℕ) (s : List ℕ) → m ≤ n → below m s ≡ true → below n s ≡ true
 below_more m n s l b = says_below n s (λ u i. omega (arith, below_says m s u b i))

@@ -1,5 +1,5 @@
 -- Values are 0 or 1: of lists that are written, of literals, and of the nodes of a drawing.
-use Rattle.std.proofs.Common.{◌≡◌, ℕ, zero, suc, ◌-◌, ◌%◌, ◌≤◌, true, false, eqb, List, [], ◌∷◌, ◌++◌, length, get_or, set, replicate, refl, ap, ◌∙◌, arith}
+use Rattle.std.proofs.Common.{◌≡◌, ℕ, zero, suc, ◌-◌, ◌%◌, ◌≤◌, true, false, eqb, List, [], ◌∷◌, ◌++◌, length, get_or, replicate, refl, ap, ◌∙◌, arith}
 use Rattle.std.proofs.lemmas.Nat.{and_le_l}
 use Rattle.std.proofs.lemmas.Bool.{cond_both, both_ways}
 use Rattle.drawing.specs.declared.node.Node.{Node}
@@ -21,13 +21,6 @@ binary_zeros (suc n) (suc k) = binary_zeros n k
 pub binary_cons : (v : ℕ) (vs : List ℕ) → v ≤ 1 → Binary vs → Binary (v ∷ vs)
 binary_cons v vs h b zero = h
 binary_cons v vs h b (suc k) = b k
-
-pub binary_set : (vs : List ℕ) (n v : ℕ) → Binary vs → v ≤ 1 → Binary (set vs n v)
-binary_set [] n v b h k = omega arith
-binary_set (x ∷ vs) zero v b h zero = h
-binary_set (x ∷ vs) zero v b h (suc k) = b (suc k)
-binary_set (x ∷ vs) (suc n) v b h zero = b 0
-binary_set (x ∷ vs) (suc n) v b h (suc k) = binary_set vs n v (λ j. b (suc j)) h k
 
 pub binary_push : (vs : List ℕ) (v : ℕ) → Binary vs → v ≤ 1 → Binary (vs ++ v ∷ [])
 binary_push [] v b h zero = h

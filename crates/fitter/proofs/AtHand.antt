@@ -14,7 +14,7 @@ use Rattle.cuts.specs.declared.cut.Cut.{Cut}
 use Rattle.cuts.specs.Cuts.{least_cuts}
 use Rattle.cuts.specs.Leaves.{sets_of}
 use Rattle.cuts.specs.Limits.{most_cuts}
-use Rattle.cuts.specs.Lists.{AtHand, Lists, left_fanin, right_fanin}
+use Rattle.cuts.specs.Lists.{Lists}
 use Rattle.fitter.specs.declared.job.Job.{Job}
 use Rattle.fitter.specs.declared.kept.Kept.{Kept}
 use Rattle.fitter.specs.Jobs.{book_of, is_kept}
@@ -38,14 +38,7 @@ module _ (j : Job) where
   pub width_few : j.width ≤ most_leaves
   width_few = leb-true _ _ (and_parts _ _ j.part).1
 
-  -- a kept list serves as the list of a fanin
-  pub kept_at_hand : (f : ℕ) → (is_gate (at nodes_of f) ≡ true → is_kept j f ≡ true) → AtHand nodes_of j.width f (row_of j.lists f)
-  kept_at_hand f h g = ((j.listed f (h g), j.counted f (h g)), row_short j.lists f)
-
   module _ (v : ℕ) (gate : is_gate (at nodes_of v) ≡ true) (fans : FaninsKept j v) (ns : List Node) (is : ns ≡ nodes_of) where
-    pub gate_inside : v < length ns
-    gate_inside = rw is (gate_range nodes_of v gate)
-
     module _ (p : Pair) (tied : at ns v ≡ Gate p) where
       gated : at nodes_of v ≡ Gate p
       gated = rw is at tied
@@ -61,12 +54,6 @@ module _ (j : Job) where
 
       pub right_small : node_of p.right < 256
       right_small = omega (arith, fanins_below_lem nodes_of v (node_of p.right) job_sound (gate_range nodes_of v gate) right_in, gate_range nodes_of v gate, job_few)
-
-      pub left_at_hand : (rows : List Cut) → rows ≡ row_of j.lists (node_of p.left) → AtHand ns j.width (left_fanin ns v) rows
-      left_at_hand rows e = rw (e, is, gated) (kept_at_hand (node_of p.left) (fans (node_of p.left) left_in))
-
-      pub right_at_hand : (rows : List Cut) → rows ≡ row_of j.lists (node_of p.right) → AtHand ns j.width (right_fanin ns v) rows
-      right_at_hand rows e = rw (e, is, gated) (kept_at_hand (node_of p.right) (fans (node_of p.right) right_in))
 
 or_none : (a b : Bool) → b ≡ false → a ≡ (a || b)
 or_none true b h = refl
@@ -99,11 +86,3 @@ module _ (j : Job) (k : Kept) (v : ℕ) (list : List Cut) (gate : is_gate (at (n
       (λ (e : u ≡ v). subst (λ z. length (row_of k z) ≡ length (least_cuts (nodes_of j) j.width z)) (sym e) (ap length row ∙ whole.1))
       (λ (e : u ≢ v). ap length (others u e) ∙ j.counted u (old u e h))
       (cases_eq u v)
-
--- a list that is kept already
-pub kept_again : (held : ℕ → Bool) (v : ℕ) → held v ≡ true → (u : ℕ) → held u ≡ (held u || eqb u v)
-kept_again held v h u =
-    ⊎_elim
-    (λ (e : u ≡ v). let k : held u ≡ true = rw e h in rw k refl)
-    (λ (e : u ≢ v). or_none (held u) (eqb u v) (ne_eqb u v e))
-    (cases_eq u v)

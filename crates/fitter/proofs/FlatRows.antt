@@ -1,11 +1,11 @@
 -- Flat rows: writing one row leaves the others.
-use Rattle.std.proofs.Common.{◌≡◌, ℕ, zero, suc, false, refl, ◌+◌, ◌-◌, ◌*◌, ◌<◌, ◌≤◌, ◌≢◌, List, [], ◌∷◌, length, get_or, take, drop, set, replicate, sym, ap, ◌∙◌, ⊎_elim, arith}
+use Rattle.std.proofs.Common.{◌≡◌, ℕ, zero, suc, false, refl, ◌+◌, ◌-◌, ◌*◌, ◌<◌, ◌≤◌, ◌≢◌, List, length, get_or, take, drop, replicate, sym, ap, ◌∙◌, ⊎_elim, arith}
 use Rattle.std.specs.Prelude.{Option, None, is_some}
 use borrow.Rule.Slice.PartMut.{put_mid}
 use Rattle.std.proofs.lemmas.Slice.{between_is, between-put_mid, take-put_mid_below, drop-put_mid}
 use Rattle.std.proofs.lemmas.Bool.{cases_order}
 use Rattle.cuts.specs.Limits.{most_cuts}
-use Rattle.fitter.specs.Rows.{len_of, len_at, row_at}
+use Rattle.fitter.specs.Rows.{len_at, row_at}
 
 module _ {X : Type 0} (flat list part : List X) (v k : ℕ) (few : length list ≤ most_cuts) (is : part ≡ list) (same : k ≡ length list) (room : v * most_cuts + length list ≤ length flat) where
   abbrev new : List X
@@ -31,15 +31,6 @@ module _ {X : Type 0} (flat list part : List X) (v k : ℕ) (few : length list �
       ap (take n) (drop-put_mid a k flat part b (omega arith) (omega arith) (ap length is ∙ sym same)) in
       ⊎_elim (λ e. absurd (ne e)) (⊎_elim below above) (cases_order u v)
 
--- one length changed
-pub lens_small : (lens : List (Option ℕ)) (v : ℕ) (o : Option ℕ) (u : ℕ) → ((w : ℕ) → len_at lens w ≤ most_cuts) → len_of o ≤ most_cuts → len_at (set lens v o) u ≤ most_cuts
-lens_small [] v o u h s = h u
-lens_small (x ∷ xs) zero o zero h s = s
-lens_small (x ∷ xs) zero o (suc u) h s = h (suc u)
-lens_small (x ∷ xs) (suc v) o zero h s = h 0
-lens_small (x ∷ xs) (suc v) o (suc u) h s = lens_small xs v o u (λ w. h (suc w)) s
-
--- where no length is given
 pub none_at : (n v : ℕ) → get_or {A = Option ℕ} (replicate n None) v None ≡ None
 none_at zero v = refl
 none_at (suc n) zero = refl

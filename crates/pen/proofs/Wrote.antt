@@ -16,10 +16,6 @@ wrote_then {o} {p} {q} {a} {b} w v = record {
   laid = v.laid ∙ ap (λ x. over x.0 x.1 b) w.laid ∙ sym (over_append o.out.now o.at a b);
 }
 
-pub wrote_none : {o : Pen} → Wrote o [] o
-wrote_none = record { same = refl; laid = refl }
-
--- the text by another name
 pub wrote_is : {o p : Pen} {a b : List ℕ} → Wrote o a p → a ≡ b → Wrote o b p
 wrote_is {o} {p} w e = subst (λ (x : List ℕ). Wrote o x p) e w
 

@@ -15,11 +15,7 @@ use family::Family;
 
 impl Job {
     /// Writes the arrivals of all nodes into the table, by rising number, and answers the cuts that the needed gates take.
-    pub(crate) fn take_cuts<F: Family>(
-        &self,
-        family: &F,
-        table: &mut [F::Arrival],
-    ) -> [Cut; 256]
+    pub(crate) fn take_cuts<F: Family>(&self, family: &F, table: &mut [F::Arrival]) -> [Cut; 256]
         requires lists { AllKept self.now }
         requires room { length (book_of self.now).drawing.nodes ≤ length table.old }
         ensures cuts { Chosen (F.delay family.now) (book_of self.now).drawing.nodes (book_of self.now).drawing.outputs self.now.width (length (book_of self.now).drawing.nodes) (sets_of result) }

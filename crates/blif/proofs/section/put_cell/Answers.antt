@@ -1,10 +1,10 @@
-use Rattle.std.proofs.Common.{◌∷◌, length, ap}
-use Rattle.blif.specs.Text.{node_name, node_names, table_lines}
+use Rattle.std.proofs.Common.{◌∷◌, ap}
+use Rattle.blif.specs.Text.{node_name, node_names}
 use Rattle.pen.proofs.Wrote.{wrote_then, wrote_is}
 use Rattle.blif.proofs.section.put_cell.Goals as goal
 
 pub returns : goal.returns
 returns c =
-    let e = c.leaves-leaves.ensures.is in
+    let e = c.leaves.ensures.is in
     wrote_then (wrote_then (wrote_then (wrote_then c.text.ensures (wrote_is c.put_nodes.ensures (ap node_names e))) (wrote_is c.put_name.ensures (ap (λ n. 32 ∷ node_name n) c.from.ensures))) c.text-2.ensures)
-    (wrote_is c.put_table.ensures (ap (λ ls. table_lines c.args.cell.now.table (length ls)) e))
+    c.put_table.ensures

@@ -6,14 +6,14 @@ use Rattle.cells.specs.Limits.{table_bits}
 use Rattle.cells.specs.Truth.{bit}
 use Rattle.cells.proofs.Pins.{Pinned, no_pins, pin_more}
 use Rattle.cells.proofs.Words.{leaf_words, leaf_word_bit}
-use Rattle.cells.proofs.table.pins.Goals as goal
+use Rattle.cells.proofs.table.Cone.pins.Goals as goal
 
 pub loop-leaf-init : goal.loop-leaf-init
 loop-leaf-init c = (refl, no_pins most_nodes)
 
 pub loop-leaf-preserved : goal.loop-leaf-preserved
 loop-leaf-preserved c =
-    let ls : List ℕ = c.args.leaves.now in
+    let ls : List ℕ = c.args.self.now.leaves.now in
     let l : ℕ = c.in-Some.leaf.now in
     let w : ℕ = c.in-Some.word.now in
     let k : ℕ = length c.loop-leaf.yielded in
@@ -31,7 +31,7 @@ loop-leaf-preserved c =
 
 pub returns : goal.returns
 returns c =
-    let ls : List ℕ = c.args.leaves.now in
+    let ls : List ℕ = c.args.self.now.leaves.now in
     let k : ℕ = length c.loop-leaf.yielded in
     let z = zip_end ls leaf_words c.loop-leaf.yielded c.into_iter-leaf-iterator.result c.loop-leaf.leaf-iterator c.next.new.self c.next.result (cc) (cc)
     c.loop-leaf.yielded_by c.in-None.is c.next.ensures.steps in
