@@ -136,6 +136,7 @@ fn grown(alloc: Global, random: &mut Random) -> Result<Job, NoDrawing> {
 
 /// A job with a drawing of up to 255 nodes above node 0.
 pub fn draw(alloc: Global, random: &mut Random) -> Result<Job, NoDrawing> {
+    // two kinds of drawings by chance: they need different things, so that nothing would be joined by passing one of them in
     if random.below(2) == 0 {
         Ok(woven(random)?)
     } else {

@@ -68,6 +68,7 @@ fn has_cut(list: &[Cut], leaves: &[u8]) -> bool {
 }
 
 /// Whether the lists hold the same cuts; each cut stands in a list once.
+// by hand, since the order of a list is open, and an equality that is derived would compare it
 fn same_cuts(left: &[Cut], right: &[Cut]) -> bool {
     left.len() == right.len() && left.iter().all(|cut| has_cut(right, cut.leaves()))
 }
