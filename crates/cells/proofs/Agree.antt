@@ -1,7 +1,7 @@
 -- A lawful netlist that covers a drawing has the drawing's values.
 use Rattle.std.proofs.Common.{◌≡◌, ℕ, zero, suc, ◌+◌, ◌*◌, ◌/◌, ◌%◌, ◌<◌, ◌≤◌, true, false, cond, ◌||◌, eqb, List, [], ◌∷◌, map, length, get_or, take, sym, refl, ap, ◌∙◌, subst, inl, inr, ⊎_elim, mod-eq_of_lt, arith}
 use native.Mathlib.Nat.{add-mul-mod_self_left}
-use Rattle.std.proofs.lemmas.List.{get_or-take, get_or_past}
+use Rattle.std.proofs.lemmas.List.{get_or-take, get_or_past, length-take}
 use Rattle.std.proofs.lemmas.Bool.{cases_lt, cases_eq, cases_Bool, eqb-true, eq-eqb, ne_eqb, cond-true, cond-false, cond_both, both_ways, and_parts, or_cases, or_parts, or_left, leb-true}
 use Rattle.drawing.specs.declared.node.Node.{Node}
 use Rattle.drawing.specs.declared.node.Node.TheVariants.{Constant, Input, Gate}
@@ -147,7 +147,7 @@ module _ (given : ℕ → ℕ) (nodes : List Node) (right : sound nodes ≡ true
       let ls = leaves_of c in
       let r = row_of (look env) ls in
       let l = cell_says inputs names c h in
-      let few : length ls ≤ most_leaves = leb-true (length ls) most_leaves l.few in
+      let few : length ls ≤ most_leaves = simp length-take (omega (arith, leb-true c.count most_leaves l.few)) in
       ap (λ t. bit t r) s.table
       ∙ table_row nodes ls c.root r few (row_lt (look env) (knows_small drawn names env b k) ls)
       ∙ ap (λ e. get_or (column (coning e) nodes) c.root 0) (leaves_row (look env) drawn b ls (λ n m. knows_node drawn names env k n (every_in (λ x. mem (plain x) names) n ls l.leaves_known m)))

@@ -16,22 +16,22 @@ use Rattle.cells.specs.Netlist.{Netlist, netlist, empty_netlist, with_input, wit
 use Rattle.cells.specs.Laws.{known, cell_lawful, names_after, cells_lawful, output_lawful, roots_of, names_of, numbered, lawful_cover, TablesFilled}
 use Rattle.drawing.proofs.SetLaws.{below_says}
 use Rattle.cells.proofs.Names.{named_is}
-use Rattle.cells.proofs.Tables.{table_filled}
+use Rattle.cells.proofs.Tables.{table_filled, leaves_of_cell}
 
 -- the parts of the law of a cell
 pub record CellLaws (inputs names : List ℕ) (c : Cell) : Type 0 where
-  pub few : leb (length (leaves_of c)) most_leaves ≡ true
+  pub few : leb c.count most_leaves ≡ true
   pub fresh : not (mem c.root inputs) ≡ true
   pub rising : rises 0 (leaves_of c) ≡ true
   pub leaves_known : known names (leaves_of c) ≡ true
-  pub full : filled (length (leaves_of c)) c.table ≡ true
+  pub full : filled c.count c.table ≡ true
 
 pub cell_says : (inputs names : List ℕ) (c : Cell) → cell_lawful inputs names c ≡ true → CellLaws inputs names c
 cell_says inputs names c h =
-    let p = and_parts (leb (length (leaves_of c)) most_leaves && not (mem c.root inputs) && rises 0 (leaves_of c) && known names (leaves_of c)) (filled (length (leaves_of c)) c.table) h in
-    let q = and_parts (leb (length (leaves_of c)) most_leaves && not (mem c.root inputs) && rises 0 (leaves_of c)) (known names (leaves_of c)) p.0 in
-    let r = and_parts (leb (length (leaves_of c)) most_leaves && not (mem c.root inputs)) (rises 0 (leaves_of c)) q.0 in
-    let s = and_parts (leb (length (leaves_of c)) most_leaves) (not (mem c.root inputs)) r.0 in
+    let p = and_parts (leb c.count most_leaves && not (mem c.root inputs) && rises 0 (leaves_of c) && known names (leaves_of c)) (filled c.count c.table) h in
+    let q = and_parts (leb c.count most_leaves && not (mem c.root inputs) && rises 0 (leaves_of c)) (known names (leaves_of c)) p.0 in
+    let r = and_parts (leb c.count most_leaves && not (mem c.root inputs)) (rises 0 (leaves_of c)) q.0 in
+    let s = and_parts (leb c.count most_leaves) (not (mem c.root inputs)) r.0 in
     record { few = s.0; fresh = s.1; rising = r.1; leaves_known = q.1; full = p.1 }
 
 pub says_cell : (inputs names : List ℕ) (c : Cell) → CellLaws inputs names c → cell_lawful inputs names c ≡ true
@@ -123,11 +123,12 @@ lawful_output n o h k =
 -- the cell of a gate keeps the law
 pub gate_lawful : (inputs names : List ℕ) (nodes : List Node) (root : ℕ) (ls : List ℕ) → length ls ≤ most_leaves → mem root inputs ≡ false → rises 0 ls ≡ true → known names ls ≡ true → cell_lawful inputs names (cell_of nodes root ls) ≡ true
 gate_lawful inputs names nodes root ls few new up k =
+    let e = leaves_of_cell nodes root ls in
     says_cell inputs names (cell_of nodes root ls) record {
       few = le-leb (length ls) most_leaves few;
       fresh = not_from_false (mem root inputs) new;
-      rising = up;
-      leaves_known = k;
+      rising = ap (rises 0) e ∙ up;
+      leaves_known = ap (known names) e ∙ k;
       full = table_filled nodes ls root few;
     }
 
@@ -148,12 +149,12 @@ cover_outputs n h =
     (or_cases (eqb (node_of o) 0) (mem (plain (node_of o)) (names_of n)) (every_in (output_lawful (names_of n)) o n.outputs (cover_says n h).outputs_lawful i))))
 
 -- each cell of a lawful netlist has its table filled
-cells_filled : (inputs names : List ℕ) (cs : List Cell) (c : Cell) → cells_lawful inputs names cs ≡ true → In c cs → filled (length (leaves_of c)) c.table ≡ true
+cells_filled : (inputs names : List ℕ) (cs : List Cell) (c : Cell) → cells_lawful inputs names cs ≡ true → In c cs → filled c.count c.table ≡ true
 cells_filled inputs names [] c h i = absurd i
 cells_filled inputs names (d ∷ ds) c h i =
     let p = and_parts (cell_lawful inputs names d) (cells_lawful inputs (root_name d ∷ names) ds) h in
     ⊎_elim
-    (λ (e : d ≡ c). subst (λ (x : Cell). filled (length (leaves_of x)) x.table ≡ true) e (cell_says inputs names d p.0).full)
+    (λ (e : d ≡ c). subst (λ (x : Cell). filled x.count x.table ≡ true) e (cell_says inputs names d p.0).full)
     (λ (e : In c ds). cells_filled inputs (root_name d ∷ names) ds c p.1 e)
     i
 
@@ -161,4 +162,4 @@ pub tables_filled : TablesFilled
 unfolding filled
 tables_filled n c m h i l =
     let f = cells_filled n.inputs (map plain n.inputs) n.cells c (cover_says n h).cells_lawful_lem i in
-    eqb-true _ _ (every_in (λ k. eqb (bit c.table k) (table_bit (length (leaves_of c)) (bit c.table) k)) m (range_with_len 0 table_bits) f (in_counting 0 table_bits m (omega arith) (omega arith)))
+    eqb-true _ _ (every_in (λ k. eqb (bit c.table k) (table_bit c.count (bit c.table) k)) m (range_with_len 0 table_bits) f (in_counting 0 table_bits m (omega arith) (omega arith)))

@@ -1,13 +1,15 @@
 -- What a mapper shows of the pieces that it adds: nodes that have a name, and cells that suit.
-use Rattle.std.proofs.Common.{◌≡◌, ℕ, true, false, eqb, ◌⊎◌, List, [], ◌∷◌, map, refl, ap, inl, inr, ⊎_elim, arith}
+use Rattle.std.proofs.Common.{◌≡◌, ℕ, true, false, eqb, ◌⊎◌, List, [], ◌∷◌, map, sym, refl, ap, ◌∙◌, inl, inr, ⊎_elim, arith}
 use Rattle.std.proofs.lemmas.Bool.{or_cases, or_left, or_right, both_ways, eqb-true, eq-eqb}
 use Rattle.drawing.specs.declared.node.Node.{Node}
 use Rattle.drawing.specs.Sets.{mem}
 use Rattle.cuts.specs.Cuts.{closes}
 use Rattle.cells.specs.declared.cell.Cell.{Cell}
+use Rattle.cells.specs.Truth.{table_of}
 use Rattle.cells.specs.Netlist.{Netlist, cell_of, plain, root_name}
 use Rattle.cells.specs.Laws.{names_after, roots_of, names_of}
 use Rattle.cells.specs.Covers.{Suits}
+use Rattle.cells.proofs.Tables.{leaves_of_cell}
 
 -- a name stays one
 names_stay : (names : List ℕ) (cs : List Cell) (l : ℕ) → mem l names ≡ true → mem l (names_after names cs) ≡ true
@@ -59,4 +61,8 @@ root_named n v h = root_in (map plain n.inputs) n.cells v h
 -- the cell of a gate suits the drawing where its leaves close the gate
 pub gate_suits : (nodes : List Node) (root : ℕ) (ls : List ℕ) → closes nodes ls root ≡ true → Suits nodes (cell_of nodes root ls)
 gate_suits nodes root ls h =
-    record { closing = h; table = refl }
+    let e = leaves_of_cell nodes root ls in
+    record {
+      closing = ap (λ s. closes nodes s root) e ∙ h;
+      table = ap (λ s. table_of nodes s root) (sym e);
+    }

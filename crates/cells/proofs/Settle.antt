@@ -71,13 +71,12 @@ value_held : (vs : List ℕ) (env : List (ℕ × ℕ)) (c : Cell) → Holds vs e
 value_held vs env c h = ap (bit c.table) (row_same (λ l. get_or vs l 0) (look env) h (leaves_of c))
 
 -- one cell more
-pub cell_more : (vs new : List ℕ) (env : List (ℕ × ℕ)) (cells : List Cell) (k v : ℕ) (c : Cell) → k < length cells → c ≡ get_or cells k c → v ≡ cell_value (λ l. get_or vs l 0) c → Holds vs (after env (take k cells)) → Holds new ((root_name c, v) ∷ after env (take k cells)) → Holds new (after env (take (k + 1) cells))
-cell_more vs new env cells k v c lt is e h held =
+pub cell_more : (vs new : List ℕ) (env : List (ℕ × ℕ)) (cells : List Cell) (k v : ℕ) (d : Cell) → k < length cells → v ≡ cell_value (λ l. get_or vs l 0) (get_or cells k d) → Holds vs (after env (take k cells)) → Holds new ((root_name (get_or cells k d), v) ∷ after env (take k cells)) → Holds new (after env (take (k + 1) cells))
+cell_more vs new env cells k v d lt e h held =
+    let c = get_or cells k d in
     let old = after env (take k cells) in
     let a : after env (take (k + 1) cells) ≡ (root_name c, v) ∷ old =
-    ap (after env) (take_more cells k c lt) ∙ after_push env (take k cells) (get_or cells k c)
-    ∙ ap (λ x. (root_name x, cell_value (look old) x) ∷ old) (sym is)
-    ∙ ap (λ x. (root_name c, x) ∷ old) (sym (e ∙ value_held vs old c h)) in
+    ap (after env) (take_more cells k d lt) ∙ after_push env (take k cells) c ∙ ap (λ x. (root_name c, x) ∷ old) (sym (e ∙ value_held vs old c h)) in
     subst (Holds new) (sym a) held
 
 pub outputs_same : (f g : ℕ → ℕ) → ((n : ℕ) → f n ≡ g n) → (os : List ℕ) → map (output_value f) os ≡ map (output_value g) os

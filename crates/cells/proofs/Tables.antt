@@ -1,7 +1,8 @@
 -- The laws of a cell's table: each bit, and that it is filled.
-use Rattle.std.proofs.Common.{◌≡◌, ℕ, ◌/◌, ◌%◌, ◌^◌, ◌<◌, ◌≤◌, true, eqb, ltb, List, [], ◌∷◌, length, sym, refl, ◌∙◌, ⊎_elim, arith, pow_mono}
+use Rattle.std.proofs.Common.{◌≡◌, ℕ, ◌/◌, ◌%◌, ◌^◌, ◌<◌, ◌≤◌, true, eqb, ltb, List, [], ◌∷◌, length, drop, replicate, sym, refl, ◌∙◌, ⊎_elim, arith, pow_mono}
 use Rattle.std.specs.List.{range_with_len}
 use Rattle.std.proofs.lemmas.Nat.{mod_below}
+use Rattle.std.proofs.lemmas.List.{take_at}
 use Rattle.std.proofs.lemmas.Bool.{cond_both, cond-true, cond-false, lt-ltb, le-ltb, eq-eqb, cases_lt}
 use Rattle.drawing.specs.declared.node.Node.{Node}
 use Rattle.drawing.specs.Values.{lookup}
@@ -69,4 +70,4 @@ module _ (nodes : List Node) (ls : List ℕ) (root : ℕ) where
       (table_bit_at m (omega (arith, counting_in 0 table_bits m i)) ∙ table_bit_same (length ls) (cone nodes ls root) (bit t) m (λ k h. sym (table_row k few h))))
 
 pub leaves_of_cell : (nodes : List Node) (root : ℕ) (ls : List ℕ) → leaves_of (cell_of nodes root ls) ≡ ls
-leaves_of_cell nodes root ls = refl
+leaves_of_cell nodes root ls = take_at ls (drop (length ls) (replicate most_leaves 0)) (length ls) refl

@@ -1,5 +1,5 @@
 -- The laws of a cover.
-use Rattle.std.specs.Prelude.{◌≡◌, ℕ, ◌<◌, Bool, true, not, ◌&&◌, ◌||◌, List, [], ◌∷◌, map, length, ◌==◌, nat_le}
+use Rattle.std.specs.Prelude.{◌≡◌, ℕ, ◌<◌, Bool, true, not, ◌&&◌, ◌||◌, List, [], ◌∷◌, map, ◌==◌, nat_le}
 use Rattle.drawing.specs.Sets.{every, mem, rises, below, In}
 use Rattle.drawing.specs.Drawing.{node_of, most_nodes}
 use Rattle.cells.specs.declared.cell.Cell.{Cell}
@@ -15,8 +15,8 @@ known names nodes = every (λ n. mem (plain n) names) nodes
 -- a cell has no more leaves than it may, and they rise and are known before it; its root is no input, and its table is filled
 abbrev pub cell_lawful : List ℕ → List ℕ → Cell → Bool
 cell_lawful inputs names c =
-    nat_le (length (leaves_of c)) most_leaves && not (mem c.root inputs) && rises 0 (leaves_of c) && known names (leaves_of c)
-    && filled (length (leaves_of c)) c.table
+    nat_le c.count most_leaves && not (mem c.root inputs) && rises 0 (leaves_of c) && known names (leaves_of c)
+    && filled c.count c.table
 
 -- the names that are known after the cells, the newest first
 abbrev pub names_after : List ℕ → List Cell → List ℕ
@@ -52,4 +52,4 @@ lawful_cover n =
 
 -- in a lawful netlist every bit of a cell's table is what its rows make of it
 abbrev pub TablesFilled : Type 0
-TablesFilled = (n : Netlist) (c : Cell) (m : ℕ) → lawful_cover n ≡ true → In c n.cells → m < table_bits → bit c.table m ≡ table_bit (length (leaves_of c)) (bit c.table) m
+TablesFilled = (n : Netlist) (c : Cell) (m : ℕ) → lawful_cover n ≡ true → In c n.cells → m < table_bits → bit c.table m ≡ table_bit c.count (bit c.table) m

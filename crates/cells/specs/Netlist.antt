@@ -1,20 +1,22 @@
 -- Netlists of lookup cells: what they hold, and what they answer to a row.
-use Rattle.std.specs.Prelude.{ℕ, ◌+◌, ◌*◌, List, [], ◌∷◌, ◌++◌, map}
+use Rattle.std.specs.Prelude.{ℕ, ◌+◌, ◌*◌, List, [], ◌∷◌, ◌++◌, map, length, take, drop, replicate}
 use Rattle.drawing.specs.declared.node.Node.{Node}
 use Rattle.drawing.specs.Drawing.{node_of}
 use Rattle.drawing.specs.Values.{turned, lookup, bound}
 use Rattle.cells.specs.declared.cell.Cell.{Cell}
+use Rattle.drawing.specs.Drawing.{most_leaves}
 use Rattle.cells.specs.Truth.{bit, table_of}
 
 -- a cell's leaves, by rising number
 abbrev pub leaves_of : Cell → List ℕ
-leaves_of c = c.leaves.items
+leaves_of c = take c.count c.leaves
 
--- the cell of a gate: its root, its leaves, and the table of its cone
+-- the cell of a gate: its root, its leaves with zeros behind them, and the table of its cone
 abbrev pub cell_of : List Node → ℕ → List ℕ → Cell
 cell_of nodes root leaves = record {
   root = root;
-  leaves = record { items = leaves };
+  count = length leaves;
+  leaves = leaves ++ drop (length leaves) (replicate most_leaves 0);
   table = table_of nodes leaves root;
 }
 

@@ -4,13 +4,13 @@ ghost use Rattle.std.specs.Prelude.{◌≡◌, ◌≤◌, length};
 ghost use Rattle.drawing.specs.Drawing.{most_leaves};
 ghost use Rattle.cells.specs.Netlist.{leaves_of};
 
-use arrayvec::ArrayVec;
-
-/// The root, the leaves by rising number, and the truth table.
-#[derive(Debug, Default, PartialEq, Eq, Drop)]
+/// The root, the leaves by rising number (`count` of them, then zeros), and the truth table.
+// an array with its count: a cell is copied freely, and a vector of fixed capacity is not Copy
+#[derive(Clone, Copy, Debug, Default, PartialEq, Eq)]
 pub struct Cell {
     pub root: u8,
-    pub leaves: ArrayVec<u8, 5>,
+    pub count: u8,
+    pub leaves: [u8; 5],
     pub table: u32,
 }
 
@@ -20,6 +20,7 @@ impl Cell {
         ensures is { result.now ≡ leaves_of self.now }
         ensures few { length result.now ≤ most_leaves }
     {
-        &self.leaves
+        let count = (self.count as usize).min(self.leaves.len());
+        &self.leaves[..count]
     }
 }

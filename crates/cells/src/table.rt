@@ -11,7 +11,6 @@ ghost use Rattle.drawing.specs.Sets.{below};
 ghost use Rattle.drawing.specs.Values.{literal as literal_value, lookup, turned, valuing};
 
 use crate::cell::Cell;
-use arrayvec::ArrayVec;
 use drawing::node::Node;
 use drawing::nodes::Nodes;
 
@@ -118,9 +117,12 @@ impl<'a> Cone<'a> {
     pub fn cell(&self) -> Cell
         ensures { result ≡ cell_of self.now.nodes.now self.now.root self.now.leaves.now }
     {
+        let mut leaves = [0; 5];
+        leaves[..self.leaves.len()].copy_from_slice(self.leaves);
         Cell {
             root: self.root,
-            leaves: ArrayVec::try_from(self.leaves).unwrap(),
+            count: self.leaves.len() as u8,
+            leaves,
             table: self.table(),
         }
     }

@@ -10,8 +10,8 @@ pub loop-cell-preserved : goal.loop-cell-preserved
 loop-cell-preserved c = λ env h.
     let k = c.loop-cell.cell-index in
     let old = c.loop-cell.invariant env h in
-    cell_more c.loop-cell.values.bits c.set.new.self.bits env c.args.cells.now k c.cell-value.result c.cell-item.result
-    c.loop-cell-test.true c.cell-item.is c.cell-value.ensures.is old (c.set.ensures (after env (take k c.args.cells.now)) old)
+    cell_more c.loop-cell.values.bits c.set.new.self.bits env c.args.cells.now k c.cell-value.result _
+    c.loop-cell-test.true c.cell-value.ensures.is old (c.set.ensures (after env (take k c.args.cells.now)) old)
 
 pub returns : goal.returns
 returns c = λ env h.
