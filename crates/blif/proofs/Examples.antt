@@ -5,7 +5,7 @@ use Rattle.cells.specs.Netlist.{Netlist, netlist}
 use Rattle.blif.specs.Sections.{section_text}
 
 abbrev three : Cell
-three = record { root = 5; leaves = record { items = 1 ∷ 2 ∷ 3 ∷ [] }; table = 130 }
+three = record { root = 5; count = 3; leaves = 1 ∷ 2 ∷ 3 ∷ 0 ∷ 0 ∷ []; table = 130 }
 
 abbrev small : Netlist
 small = netlist (1 ∷ 2 ∷ 3 ∷ []) (three ∷ []) (11 ∷ 10 ∷ 0 ∷ 1 ∷ [])
@@ -36,5 +36,5 @@ bare : section_text (netlist [] [] []) 0 ≡ codes ".model lutmap\n.inputs\n.out
 bare = refl
 
 -- a cell without leaves
-leafless : section_text (netlist [] (record { root = 1; leaves = record { items = [] }; table = 1 } ∷ []) []) 1 ≡ codes ".names n1\n1\n"
+leafless : section_text (netlist [] (record { root = 1; count = 0; leaves = 0 ∷ 0 ∷ 0 ∷ 0 ∷ 0 ∷ []; table = 1 } ∷ []) []) 1 ≡ codes ".names n1\n1\n"
 leafless = refl

@@ -1,4 +1,4 @@
-use Rattle.std.proofs.Common.{◌-◌, ltb, length, get_or, sym, ap, ◌∙◌, arith}
+use Rattle.std.proofs.Common.{◌-◌, ltb, [], length, get_or, sym, ap, ◌∙◌, arith}
 use Rattle.std.proofs.lemmas.Bool.{ltb-true}
 use Rattle.drawing.specs.Sets.{every}
 use Rattle.drawing.specs.Drawing.{node_of, most_nodes}
@@ -29,8 +29,8 @@ returns-then-section-cells c =
     let i = c.args.section in
     let e = c.cells-cells.ensures.is in
     let l = ap length e in
-    let d : Cell = c.index-cells-section.result in
-    wrote_is c.put_cell.ensures (ap cell_text c.index-cells-section.is ∙ ap (λ cs. cell_text (get_or cs (i - 1) d)) e ∙ sym (section_cell n i d (omega arith) (omega arith)))
+    let d : Cell = record { root = 0; count = 0; leaves = []; table = 0 } in
+    wrote_is c.put_cell.ensures (ap (λ cs. cell_text (get_or cs (i - 1) d)) e ∙ sym (section_cell n i d (omega arith) (omega arith)))
 
 pub returns-then-k-outputs : goal.returns-then-k-outputs
 returns-then-k-outputs c =
