@@ -20,10 +20,10 @@ use Rattle.fitter.specs.declared.kept.Kept.{Kept}
 use Rattle.fitter.specs.Jobs.{book_of, is_kept}
 use Rattle.fitter.specs.Keeping.{held_of, row_of}
 use Rattle.fitter.specs.Making.{FaninsKept}
-use Rattle.fitter.specs.Rows.{len_at}
+use Rattle.fitter.specs.Rows.{slot_at}
 
 pub row_short : (k : Kept) (v : ℕ) → length (row_of k v) ≤ most_cuts
-row_short k v = omega (arith, length-take (len_at k.lens v) (drop (v * most_cuts) k.cuts), k.short v)
+row_short k v = omega (arith, length-take (slot_at k.slots v).len (drop (v * most_cuts) k.cuts), k.short v)
 
 module _ (j : Job) where
   abbrev pub nodes_of : List Node

@@ -31,7 +31,7 @@ module _ (d e : Drawing) (g : ℕ) (p : Pair) (k : ℕ) (is : e ≡ drawing (set
     (held after marks : ℕ → Bool) (rows rows' : ℕ → List Cut)
     (left : (u : ℕ) → after u ≡ (held u && not (marks u)))
     (marked : (u : ℕ) → marks u ≡ (eqb u g || depends d.nodes g u))
-    (same : (u : ℕ) → after u ≡ true → rows' u ≡ rows u)
+    (same : (u : ℕ) → rows' u ≡ rows u)
     (gates : (v : ℕ) → held v ≡ true → is_gate (at d.nodes v) ≡ true) where
   -- a list that is still kept was kept, and its gate is neither g nor depends on it
   parts : (v : ℕ) → after v ≡ true → (held v ≡ true) × (v ≢ g) × (depends d.nodes g v ≡ false)
@@ -55,7 +55,7 @@ module _ (d e : Drawing) (g : ℕ) (p : Pair) (k : ℕ) (is : e ≡ drawing (set
   retied_gates v h = (still v h).0
 
   pub retied_listed : ((v : ℕ) → held v ≡ true → (s : List ℕ) → elem s (sets_of (rows v)) ≡ elem s (least_cuts d.nodes k v)) → (v : ℕ) → after v ≡ true → (s : List ℕ) → elem s (sets_of (rows' v)) ≡ elem s (least_cuts e.nodes k v)
-  retied_listed l v h s = ap (λ z. elem s (sets_of z)) (same v h) ∙ l v (parts v h).0 s ∙ ap (elem s) (still v h).1
+  retied_listed l v h s = ap (λ z. elem s (sets_of z)) (same v) ∙ l v (parts v h).0 s ∙ ap (elem s) (still v h).1
 
   pub retied_counted : ((v : ℕ) → held v ≡ true → length (rows v) ≡ length (least_cuts d.nodes k v)) → (v : ℕ) → after v ≡ true → length (rows' v) ≡ length (least_cuts e.nodes k v)
-  retied_counted c v h = ap length (same v h) ∙ c v (parts v h).0 ∙ ap length (still v h).1
+  retied_counted c v h = ap length (same v) ∙ c v (parts v h).0 ∙ ap length (still v h).1

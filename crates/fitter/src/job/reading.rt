@@ -35,6 +35,7 @@ impl Job {
     }
 
     /// The kept list of a gate: its least cuts with at most `width` leaves, each once, in any order. `None` if it is not kept.
+    #[tactic(auto, using(crate::proofs::AtHand::list_lent))]
     pub fn list(&self, gate: u8) -> Option<&[Cut]>
         ensures { MatchOption result (is_kept self.now gate ≡ false) (λ l. (is_kept self.now gate ≡ true) × Lists (book_of self.now).drawing.nodes self.now.width gate l.now) }
     {

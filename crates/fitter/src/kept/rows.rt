@@ -1,11 +1,11 @@
 //! Keeping lists, lending them and forgetting them.
 
-ghost use Rattle.std.specs.Prelude.{◌≡◌, ℕ, ◌≤◌, true, false, not, ◌&&◌, ◌||◌, ◌≢◌, ◌==◌, List, Option, length, slice_index_or, MatchOption};
+ghost use Rattle.std.specs.Prelude.{◌≡◌, ℕ, ◌≤◌, true, false, not, ◌&&◌, ◌||◌, ◌≢◌, ◌==◌, List, length, slice_index_or, MatchOption};
 ghost use Rattle.cuts.specs.Limits.{most_cuts};
 ghost use Rattle.fitter.specs.Keeping.{held_of, row_of};
-ghost use Rattle.fitter.specs.Rows.{flat_rows, len_at, row_at};
+ghost use Rattle.fitter.specs.Rows.{flat_rows, slot_at, row_at};
 
-use super::Kept;
+use super::{Kept, Slot};
 use cuts::cut::Cut;
 use cuts::list::MOST_CUTS;
 use drawing::table::calls::MOST_NODES;
@@ -17,8 +17,8 @@ const FLAT: usize = MOST_NODES * MOST_CUTS;
 fn put_row(flat: &mut [Cut], v: u8, list: &[Cut])
     requires room { length flat.old ≡ flat_rows }
     requires short { length list.now ≤ most_cuts }
-    ensures here { (lens : List (Option ℕ)) → len_at lens v ≡ length list.now → row_at flat.new lens v ≡ list.now }
-    ensures others { (lens : List (Option ℕ)) (u : ℕ) → (u ≢ v) → len_at lens u ≤ most_cuts → row_at flat.new lens u ≡ row_at flat.old lens u }
+    ensures here { (slots : List Slot) → (slot_at slots v).len ≡ length list.now → row_at flat.new slots v ≡ list.now }
+    ensures others { (slots : List Slot) (u : ℕ) → (u ≢ v) → (slot_at slots u).len ≤ most_cuts → row_at flat.new slots u ≡ row_at flat.old slots u }
 {
     let base = usize::from(v) * MOST_CUTS;
     flat[base..base + list.len()].copy_from_slice(list);
@@ -31,7 +31,7 @@ impl Kept {
     {
         Kept {
             cuts: [Cut::empty(); FLAT],
-            lens: [None; MOST_NODES],
+            slots: [Slot::EMPTY; MOST_NODES],
         }
     }
 
@@ -39,23 +39,23 @@ impl Kept {
     pub fn holds(&self, v: u8) -> bool
         ensures { result ≡ held_of self.now v }
     {
-        self.lens[usize::from(v)].is_some()
+        self.slots[usize::from(v)].held
     }
 
     /// The list of node v, if it is kept.
     pub fn get(&self, v: u8) -> Option<&[Cut]>
         ensures { MatchOption result (held_of self.now v ≡ false) (λ l. (held_of self.now v ≡ true) × (l.now ≡ row_of self.now v)) }
     {
-        let len = self.lens[usize::from(v)]?;
-        let base = usize::from(v) * MOST_CUTS;
-        Some(&self.cuts[base..base + usize::from(len)])
+        self.holds(v).then_some(self.row(v))
     }
 
-    /// The cuts of node v's list; no cuts if it is not kept.
+    /// The row of node v: its list, if it is kept.
     pub fn row(&self, v: u8) -> &[Cut]
         ensures { result.now ≡ row_of self.now v }
     {
-        self.get(v).unwrap_or(&[])
+        let base = usize::from(v) * MOST_CUTS;
+        let len = usize::from(self.slots[usize::from(v)].len);
+        &self.cuts[base..base + len]
     }
 
     /// Keeps a list for node v.
@@ -66,24 +66,27 @@ impl Kept {
         ensures others { (u : ℕ) → (u ≢ v) → row_of self.new u ≡ row_of self.old u }
     {
         put_row(&mut self.cuts, v, list);
-        self.lens[usize::from(v)] = Some(list.len() as u8);
+        self.slots[usize::from(v)] = Slot {
+            len: list.len() as u8,
+            held: true,
+        };
     }
 
     /// Forgets every list.
     pub fn clear(&mut self)
         ensures { (u : ℕ) → held_of self.new u ≡ false }
     {
-        self.lens = [None; MOST_NODES];
+        self.slots = [Slot::EMPTY; MOST_NODES];
     }
 
-    /// Forgets the lists of the marked nodes.
+    /// Forgets the lists of the marked nodes. What is in their rows stays.
     pub fn forget(&mut self, marks: &[bool; 256])
         ensures held { (u : ℕ) → held_of self.new u ≡ (held_of self.old u && not (slice_index_or marks.now u false)) }
-        ensures rows { (u : ℕ) → held_of self.new u ≡ true → row_of self.new u ≡ row_of self.old u }
+        ensures rows { (u : ℕ) → row_of self.new u ≡ row_of self.old u }
     {
         for (v, marked) in marks.iter().enumerate() {
             if *marked {
-                self.lens[v] = None;
+                self.slots[v].held = false;
             }
         }
     }
