@@ -116,8 +116,8 @@ IMPL = re.compile(r"^impl(?:<[^>]*>)? (?:([\w<>:, ]+) for )?(\w+|\([\w, ]+\))[^{
 def impl_name(trait, name):
     """The name that the check gives an impl: the type's, and behind it the trait's with its arguments, as RefusalFromFault, U8Field, Tuple2Field."""
     words = re.sub(r"\w+::", "", trait or "")
-    name = "Tuple%d" % (name.count(",") + 1) if name[0] == "(" else name[0].upper() + name[1:]
-    return name + "".join(re.findall(r"\w+", words))
+    name = "Tuple%d" % (name.count(",") + 1) if name[0] == "(" else name
+    return "".join(word[0].upper() + word[1:] for word in [name] + re.findall(r"\w+", words))
 
 
 def owners(source):
