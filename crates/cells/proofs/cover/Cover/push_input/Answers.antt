@@ -1,5 +1,4 @@
-use Rattle.std.proofs.Common.{◌≡◌, ℕ, true, List, length, sym, ap, subst, arith}
-use Rattle.std.proofs.lemmas.List.{length_push}
+use Rattle.std.proofs.Common.{◌≡◌, ℕ, true, List, sym, subst, arith}
 use Rattle.cells.specs.declared.cover.Cover.{Cover}
 use Rattle.cells.specs.Netlist.{netlist}
 use Rattle.cells.specs.Netlists.{netlist_of}
@@ -7,11 +6,9 @@ use Rattle.cells.specs.Laws.{lawful_cover}
 use Rattle.cells.proofs.Laws.{lawful_input}
 use Rattle.cells.proofs.cover.Cover.push_input.Goals as goal
 
-pub invariant_of-self : goal.invariant_of-self
-invariant_of-self c =
+pub invariant_of-self-clause-law : goal.invariant_of-self-clause-law
+invariant_of-self-clause-law c =
     let s : Cover = c.args.self.now in
-    let n = netlist_of s in record {
-      within = (omega (arith, ap length c.push.ensures.items, length_push s.inputs.items c.args.number), s.within.1, s.within.2);
-      law = subst (λ (is : List ℕ). lawful_cover (netlist is n.cells n.outputs) ≡ true) (sym c.push.ensures.items)
-          (lawful_input n c.args.number s.law c.requires.cells c.requires.outputs c.requires.positive (omega arith) c.requires.above);
-    }
+    let n = netlist_of s in
+    subst (λ (is : List ℕ). lawful_cover (netlist is n.cells n.outputs) ≡ true) (sym c.push.ensures.items)
+    (lawful_input n c.args.number s.law c.requires.cells c.requires.outputs c.requires.positive (omega arith) c.requires.above)
