@@ -4,6 +4,7 @@ pub mod Enumerate
 pub mod Leaves
 pub mod Survive
 pub mod Merge
+pub mod Inside
 pub mod Unions
 pub mod Stable
 pub mod Noting

@@ -1,7 +1,6 @@
 //! Making cuts, reading them, and joining two.
 
-ghost use Rattle.std.specs.Prelude.{◌≡◌, ◌<◌, ◌≤◌, true, [], ◌∷◌, length, MatchOption, ◌==◌};
-ghost use Rattle.std.specs.List.{list_all, list_any};
+ghost use Rattle.std.specs.Prelude.{◌≡◌, ◌<◌, ◌≤◌, true, [], ◌∷◌, length, MatchOption};
 ghost use Rattle.cuts.specs.Leaves.{leaves_of};
 ghost use Rattle.drawing.specs.Drawing.{most_leaves};
 ghost use Rattle.cuts.specs.Merging.{Stepped};
@@ -12,9 +11,25 @@ use std::cmp::Ordering;
 
 /// Whether each of the leaves is among the others.
 fn subset(leaves: &[u8], others: &[u8]) -> bool
-    ensures { result ≡ list_all (λ x. list_any (λ y. y == x) others.now) leaves.now }
+    requires { (rises 0 leaves.now ≡ true) × (rises 0 others.now ≡ true) }
+    ensures { result ≡ sub leaves.now others.now }
 {
-    leaves.iter().all(|leaf| others.contains(leaf))
+    let mut a = leaves;
+    let mut b = others;
+    // more leaves than others are not all among them: most pairs end at this test, or at the first leaf below the others
+    while a.len() <= b.len() {
+        let ([x, left @ ..], [y, right @ ..]) = (a, b) else {
+            return true;
+        };
+        if x < y {
+            return false;
+        }
+        if x == y {
+            a = left;
+        }
+        b = right;
+    }
+    false
 }
 
 /// The lowest leaf of two rows, and what is left of each behind it.
