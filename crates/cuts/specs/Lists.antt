@@ -1,5 +1,6 @@
 -- What it says that stored cuts are the list of a gate.
 use Rattle.std.specs.Prelude.{◌≡◌, ℕ, ◌<◌, ◌≤◌, true, List, length, Some, None, Option, slice_index}
+use Rattle.std.specs.Borrow.{Bor}
 use Rattle.arrayvec.specs.ArrayVec.{ArrayVec, array_vec_len}
 use Rattle.drawing.specs.declared.node.Node.{Node}
 use Rattle.drawing.specs.Drawing.{at, is_gate, fanins}
@@ -28,3 +29,8 @@ AtHand nodes k f rows = is_gate (at nodes f) ≡ true → Lists nodes k f rows �
 abbrev pub Made : List Node → ℕ → ℕ → Option (ArrayVec Cut) → Type 0
 Made nodes k v (Some list) = (array_vec_len list ≤ limit k) × Lists nodes k v list.items
 Made nodes k v None = limit k < length (least_cuts nodes k v)
+
+-- the answer of making the list of v in rows: it is lent, or it is more than the limit
+abbrev pub MadeIn : List Node → ℕ → ℕ → Option (Bor (List Cut)) → Type 0
+MadeIn nodes k v (Some list) = (length list.now ≤ limit k) × Lists nodes k v list.now
+MadeIn nodes k v None = limit k < length (least_cuts nodes k v)

@@ -1,14 +1,14 @@
 //! Keeping what is minimal, and making the list of a gate.
 
-ghost use Rattle.std.specs.Prelude.{◌≡◌, ◌+◌, ◌*◌, ◌<◌, ◌≤◌, true, [], length};
+ghost use Rattle.std.specs.Prelude.{◌≡◌, ◌+◌, ◌*◌, ◌<◌, ◌≤◌, true, [], length, MatchOption};
 ghost use Rattle.std.specs.List.{list_any};
 ghost use Rattle.arrayvec.specs.ArrayVec.{array_vec_len};
 ghost use Rattle.cuts.specs.Antichain.{add, survivors};
 ghost use Rattle.cuts.specs.Cuts.{joins, ways};
 ghost use Rattle.cuts.specs.Leaves.{leaves_of, sets_of};
-ghost use Rattle.cuts.specs.Limits.{most_joins, most_ways};
+ghost use Rattle.cuts.specs.Limits.{most_cuts, most_joins, most_ways};
 ghost use Rattle.drawing.specs.Drawing.{most_leaves};
-ghost use Rattle.cuts.specs.Lists.{AtHand, left_fanin, Made, right_fanin};
+ghost use Rattle.cuts.specs.Lists.{AtHand, left_fanin, Made, MadeIn, right_fanin};
 ghost use Rattle.drawing.specs.Drawing.{at, is_gate};
 ghost use Rattle.drawing.specs.Sets.{sub};
 
@@ -32,8 +32,8 @@ pub type CutList = ArrayVec<Cut, MOST_CUTS>;
 /// The choices at a fanin.
 type Choices = ArrayVec<Cut, MOST_CHOICES>;
 
-/// What is minimal among joins of choices.
-type Rows = ArrayVec<Cut, ALL_JOINS>;
+/// What is minimal among joins of choices: the rows that a list is made in.
+pub type Rows = ArrayVec<Cut, ALL_JOINS>;
 
 /// Whether some of the rows lies inside the cut.
 fn dominated(rows: &[Cut], cut: &Cut) -> bool
@@ -71,15 +71,15 @@ fn enumerate(rows: &mut Rows, left: &[Cut], right: &[Cut], most: u8)
     }
 }
 
-/// The choices at a fanin: no leaves for node 0, the node itself for an input, the node itself and then the cuts of its
-/// list for a gate.
-fn choices(nodes: &Nodes<'_>, fanin: u8, list: &[Cut]) -> Choices
+/// Puts the choices at a fanin into `choices`, which has none: no leaves for node 0, the node itself for an input, the node itself and then
+/// the cuts of its list for a gate.
+fn put_choices(choices: &mut Choices, nodes: &Nodes<'_>, fanin: u8, list: &[Cut])
+    requires none { choices.old.items ≡ [] }
     requires inside { fanin < length nodes.now }
     requires room { is_gate (at nodes.now fanin) ≡ true → length list.now < most_ways }
-    ensures within { array_vec_len result ≤ most_ways }
-    ensures all { sets_of result.items ≡ ways (sets_of list.now) fanin (at nodes.now fanin) }
+    ensures within { array_vec_len choices.new ≤ most_ways }
+    ensures all { sets_of choices.new.items ≡ ways (sets_of list.now) fanin (at nodes.now fanin) }
 {
-    let mut choices = Choices::new();
     match nodes.as_slice()[usize::from(fanin)] {
         Node::Constant => choices.push(Cut::empty()),
         Node::Input => choices.push(Cut::single(fanin)),
@@ -90,7 +90,45 @@ fn choices(nodes: &Nodes<'_>, fanin: u8, list: &[Cut]) -> Choices
             }
         }
     }
-    choices
+}
+
+/// The rows as a list. `None` if they are more than `MOST_CUTS`.
+fn as_list(rows: &[Cut]) -> Option<&[Cut]>
+    ensures { MatchOption result (most_cuts < length rows.now) (λ l. (l.now ≡ rows.now) × (length rows.now ≤ most_cuts)) }
+{
+    if rows.len() > MOST_CUTS {
+        return None;
+    }
+    Some(rows)
+}
+
+/// Makes the list of a gate in the rows, from the lists of its two fanins, and lends it; what the rows held goes. The slice of a fanin
+/// that is no gate is not looked at. `None` if there are more than `MOST_CUTS` cuts.
+pub fn list_in<'a>(
+    rows: &'a mut Rows,
+    nodes: &Nodes<'_>,
+    gate: u8,
+    width: u8,
+    left: &[Cut],
+    right: &[Cut],
+) -> Option<&'a [Cut]>
+    requires tied { is_gate (at nodes.now gate) ≡ true }
+    requires few { width ≤ most_leaves }
+    requires first { AtHand nodes.now width (left_fanin nodes.now gate) left.now }
+    requires second { AtHand nodes.now width (right_fanin nodes.now gate) right.now }
+    ensures { MadeIn nodes.now width gate result }
+{
+    let Node::Gate(pair) = nodes.as_slice()[usize::from(gate)] else {
+        unreachable()
+    };
+    let mut lefts = Choices::new();
+    let mut rights = Choices::new();
+    // a fanin is below its gate, so its number fits
+    put_choices(&mut lefts, nodes, (pair.left / 2) as u8, left);
+    put_choices(&mut rights, nodes, (pair.right / 2) as u8, right);
+    rows.clear();
+    enumerate(rows, &lefts, &rights, width);
+    as_list(rows)
 }
 
 /// Makes the list of a gate from the lists of its two fanins. The slice of a fanin that is no gate is not looked at. `None` if
@@ -108,14 +146,7 @@ pub fn make_list(
     requires second { AtHand nodes.now width (right_fanin nodes.now gate) right.now }
     ensures { Made nodes.now width gate result }
 {
-    let Node::Gate(pair) = nodes.as_slice()[usize::from(gate)] else {
-        unreachable()
-    };
-    // a fanin is below its gate, so its number fits
-    let lefts = choices(nodes, (pair.left / 2) as u8, left);
-    let rights = choices(nodes, (pair.right / 2) as u8, right);
-    // the rows are lent: `new` blanks them twice, about 1 in 100 of a map, and as an answer they were copied too
     let mut rows = Rows::new();
-    enumerate(&mut rows, &lefts, &rights, width);
-    CutList::try_from(rows.as_slice()).ok()
+    let list = list_in(&mut rows, nodes, gate, width, left, right)?;
+    CutList::try_from(list).ok()
 }

@@ -5,7 +5,7 @@ use Rattle.std.proofs.lemmas.List.Elements.{filter-append}
 use Rattle.std.proofs.lemmas.List.{get_or_past}
 use Rattle.std.proofs.lemmas.List.Filters.{length-filter_both}
 use Rattle.std.proofs.lemmas.List.FromFn.{length-range_with_len}
-use Rattle.std.proofs.lemmas.Bool.{and_parts, and_from, and_left, and_right, or_right, cases_Bool, cases_lt, lt-ltb, le-ltb, eqb-true}
+use Rattle.std.proofs.lemmas.Bool.{and_parts, and_from, and_left, and_right, or_right, both_ways, cases_Bool, cases_lt, lt-ltb, le-ltb, eqb-true}
 use Rattle.std.proofs.lemmas.Bool.Decides.{nat_tests}
 use Rattle.drawing.specs.declared.node.Node.TheVariants.{Constant}
 use Rattle.drawing.specs.declared.refusal.Refusal.{Refusal}
@@ -18,6 +18,7 @@ use Rattle.fitter.specs.declared.job.Job.{Job}
 use Rattle.fitter.specs.Book.{Book, needed_in, too_many, crowded_at}
 use Rattle.fitter.specs.Jobs.{book_of, is_kept}
 use Rattle.fitter.specs.Making.{MarksNeeded, made_below, kept_below, FaninsKept, Making, MakingNeeded, Progress, KeptUpTo, Ready, Stopped}
+use Rattle.fitter.specs.Taking.{AllKept}
 use Rattle.fitter.proofs.AtHand.{job_sound, row_short}
 
 -- a fanin of a needed gate is needed, if it is a gate
@@ -155,6 +156,29 @@ progress_done i j n p = record {
       (λ (l : length (book_of i).drawing.nodes ≤ u). and_left _ _ (and_left _ _ (ap is_gate (get_or_past (book_of i).drawing.nodes u Constant l))))
       (cases_lt u (length (book_of i).drawing.nodes));
 }
+
+none_kept : (p : ℕ → Bool) (xs : List ℕ) → ((u : ℕ) → p u ≡ false) → length (keep p xs) ≡ 0
+none_kept p [] h = refl
+none_kept p (x ∷ xs) h = rw (h x) (none_kept p xs h)
+
+-- where every needed gate has its list kept, none is to be made
+pub ready_all : (i : Job) → AllKept i → Ready i 0 i
+ready_all i h = record {
+  same = refl;
+  kept = λ u. nothing_new (is_kept i u) (ltb u (length (book_of i).drawing.nodes)) (needed_in (book_of i) u) (h u);
+  made = sym (none_kept (λ u. needed_in (book_of i) u && not (is_kept i u)) (range_with_len 0 (length (book_of i).drawing.nodes)) (λ u. not_both (is_kept i u) (needed_in (book_of i) u) (h u)));
+  fits = λ u. ⊎_elim (λ e. and_right _ _ (kept_fits i u (h u e))) (λ e. and_left _ _ e) (cases_Bool (needed_in (book_of i) u));
+}
+  where
+    nothing_new : (a x c : Bool) → (c ≡ true → a ≡ true) → a ≡ (a || (x && c))
+    nothing_new true x c h = refl
+    nothing_new false x true h = absurd (both_ways false refl (h refl))
+    nothing_new false x false h = sym (and_right x false refl)
+
+    not_both : (a c : Bool) → (c ≡ true → a ≡ true) → (c && not a) ≡ false
+    not_both a false h = refl
+    not_both true true h = refl
+    not_both false true h = absurd (both_ways false refl (h refl))
 
 -- no more lists are made than nodes are gone through
 pub made_small : (b : Book) (held : ℕ → Bool) (v : ℕ) → made_below b held v ≤ v

@@ -1,48 +1,5 @@
-use Rattle.std.proofs.Common.{◌≡◌, ap, ◌∙◌, arith}
-use Rattle.drawing.specs.declared.node.Node.TheVariants.{Gate}
-use Rattle.drawing.specs.Drawing.{at}
-use Rattle.drawing.proofs.Sound.{gate_range}
-use Rattle.cuts.specs.Leaves.{sets_of}
-use Rattle.cuts.proofs.Choosing.{left_below, right_below, left_fanin_lem, right_fanin_lem, at_hand, joins_listed, made_from}
+use Rattle.cuts.proofs.Choosing.{made_from}
 use Rattle.cuts.proofs.list.make_list.Goals as goal
 
-pub overflow_cast-pair : goal.overflow_cast-pair
-overflow_cast-pair c =
-    let nodes = c.args.nodes.now in
-    let here : at nodes c.args.gate ≡ Gate c.in-Gate.pair = rw (← c.as_slice.ensures.value, ← c.from.ensures) c.in-Gate.is in
-    omega (arith, left_below nodes c.args.gate c.in-Gate.pair c.as_slice.ensures.sound (gate_range nodes c.args.gate c.requires.tied) here)
-
-pub choices-lefts-requires-clause-inside : goal.choices-lefts-requires-clause-inside
-choices-lefts-requires-clause-inside c =
-    let nodes = c.args.nodes.now in
-    let here : at nodes c.args.gate ≡ Gate c.in-Gate.pair = rw (← c.as_slice.ensures.value, ← c.from.ensures) c.in-Gate.is in
-    let l = gate_range nodes c.args.gate c.requires.tied in
-    omega (arith, left_below nodes c.args.gate c.in-Gate.pair c.as_slice.ensures.sound l here, l)
-
-pub overflow_cast-pair-2 : goal.overflow_cast-pair-2
-overflow_cast-pair-2 c =
-    let nodes = c.args.nodes.now in
-    let here : at nodes c.args.gate ≡ Gate c.in-Gate.pair = rw (← c.as_slice.ensures.value, ← c.from.ensures) c.in-Gate.is in
-    omega (arith, right_below nodes c.args.gate c.in-Gate.pair c.as_slice.ensures.sound (gate_range nodes c.args.gate c.requires.tied) here)
-
-pub choices-rights-requires-clause-inside : goal.choices-rights-requires-clause-inside
-choices-rights-requires-clause-inside c =
-    let nodes = c.args.nodes.now in
-    let here : at nodes c.args.gate ≡ Gate c.in-Gate.pair = rw (← c.as_slice.ensures.value, ← c.from.ensures) c.in-Gate.is in
-    let l = gate_range nodes c.args.gate c.requires.tied in
-    omega (arith, right_below nodes c.args.gate c.in-Gate.pair c.as_slice.ensures.sound l here, l)
-
 pub returns : goal.returns
-returns c =
-    let nodes = c.args.nodes.now in
-    let gate = c.args.gate in
-    let k = c.args.width in
-    let p = c.in-Gate.pair in
-    let here : at nodes gate ≡ Gate p = rw (← c.as_slice.ensures.value, ← c.from.ensures) c.in-Gate.is in
-    let rows = c.enumerate.new.rows.items in
-    let made = joins_listed nodes gate p c.as_slice.ensures.sound (gate_range nodes gate c.requires.tied) here k c.args.left.now c.args.right.now
-    (at_hand nodes k _ _ c.args.left.now (left_fanin_lem nodes gate p here) c.requires.first)
-    (at_hand nodes k _ _ c.args.right.now (right_fanin_lem nodes gate p here) c.requires.second)
-    (sets_of c.deref.result.now) (sets_of c.deref-2.result.now) (ap sets_of c.deref.ensures.0 ∙ c.choices-lefts.ensures.all) (ap sets_of c.deref-2.ensures.0 ∙ c.choices-rights.ensures.all)
-    rows c.enumerate.ensures in
-    rw c.ok.ensures.value (made_from nodes k gate rows c.as_slice-2.result.now made c.as_slice-2.ensures.value c.try_from.result c.try_from.ensures)
+returns c = rw c.ok.ensures.value (made_from c.args.nodes.now c.args.width c.args.gate c.in_ok-list.list.now c.in_ok-list.ensures c.try_from.result c.try_from.ensures)

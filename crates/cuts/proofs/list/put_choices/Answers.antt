@@ -2,7 +2,7 @@ use Rattle.std.proofs.Common.{◌≡◌, refl}
 use Rattle.drawing.specs.Drawing.{at}
 use Rattle.drawing.specs.declared.node.Node.TheVariants.{Input, Gate}
 use Rattle.cuts.proofs.Choosing.{above_zero}
-use Rattle.cuts.proofs.list.choices.Goals as goal
+use Rattle.cuts.proofs.list.put_choices.Goals as goal
 
 pub single-requires : goal.single-requires
 single-requires c =
