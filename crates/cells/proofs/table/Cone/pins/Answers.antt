@@ -18,7 +18,8 @@ loop-leaf-preserved c =
     let w : ℕ = c.in-Some.word.now in
     let k : ℕ = length c.loop-leaf.yielded in
     let p : Bor ℕ × Bor ℕ = (c.in-Some.leaf, c.in-Some.word) in
-    let t = zip_turn ls leaf_words c.loop-leaf.yielded c.into_iter-leaf-iterator.result c.loop-leaf.leaf-iterator c.next.new.self c.next.result (cc) (cc)
+    let words : c.into_iter-leaf-iterator.result.b.rest.now ≡ leaf_words = ap (λ z. z.b.rest.now) c.into_iter-leaf-iterator.ensures.into_iter_gives ∙ c.zip-leaf-items.ensures.second.0 in
+    let t = zip_turn ls leaf_words c.loop-leaf.yielded c.into_iter-leaf-iterator.result c.loop-leaf.leaf-iterator c.next.new.self c.next.result (cc) words
     c.loop-leaf.yielded_by p c.in-Some.is c.next.ensures.steps in
     let e : take (length (c.loop-leaf.yielded ++ p ∷ [])) ls ≡ take k ls ++ l ∷ [] =
     ap (λ j. take j ls) (length_push c.loop-leaf.yielded p) ∙ take_more ls k 0 t.0 ∙ ap (λ x. take k ls ++ x ∷ []) (sym (t.2 0)) in
@@ -33,6 +34,7 @@ pub returns : goal.returns
 returns c =
     let ls : List ℕ = c.args.self.now.leaves.now in
     let k : ℕ = length c.loop-leaf.yielded in
-    let z = zip_end ls leaf_words c.loop-leaf.yielded c.into_iter-leaf-iterator.result c.loop-leaf.leaf-iterator c.next.new.self c.next.result (cc) (cc)
+    let words : c.into_iter-leaf-iterator.result.b.rest.now ≡ leaf_words = ap (λ z. z.b.rest.now) c.into_iter-leaf-iterator.ensures.into_iter_gives ∙ c.zip-leaf-items.ensures.second.0 in
+    let z = zip_end ls leaf_words c.loop-leaf.yielded c.into_iter-leaf-iterator.result c.loop-leaf.leaf-iterator c.next.new.self c.next.result (cc) words
     c.loop-leaf.yielded_by c.in-None.is c.next.ensures.steps in
     record { long = c.loop-leaf.invariant.0; hides = subst (Pinned c.loop-leaf.pins) (take_all k ls (omega arith)) c.loop-leaf.invariant.1 }
