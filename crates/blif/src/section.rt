@@ -1,27 +1,19 @@
 //! The sections of the cell list.
 
-ghost use Rattle.std.specs.Prelude.{◌≡◌, ◌<◌, ◌≤◌, ◌∷◌, length};
+ghost use Rattle.std.specs.Prelude.{◌≡◌, ◌<◌, ◌≤◌, length};
 ghost use Rattle.cells.specs.Netlist.{leaves_of};
 ghost use Rattle.blif.specs.Meaning.{HasMeaning, Means};
 ghost use Rattle.blif.specs.Sections.{section_answer, section_count, section_text, section_writes};
-ghost use Rattle.blif.specs.Text.{cell_text, head_text, line, name, node_names, output_text, table_lines};
+ghost use Rattle.blif.specs.Text.{cell_text, head_text, line, node_names, output_text, table_lines};
 ghost use Rattle.cells.specs.Netlists.{netlist_of};
 ghost use Rattle.drawing.specs.Drawing.{most_leaves, most_nodes, most_outputs, node_of};
 ghost use Rattle.pen.specs.Wrote.{Wrote};
 
+use crate::put::put_name;
 use cells::cell::Cell;
 use cells::cover::Cover;
 use drawing::refusal::Refusal;
 use pen::Pen;
-
-/// A space and a name: a letter and a number.
-fn put_name(pen: &mut Pen<'_>, letter: u8, n: usize)
-    requires { n < 1000 }
-    ensures { Wrote pen.old (32 ∷ name letter n) pen.new }
-{
-    pen.text(&[b' ', letter]);
-    pen.number(n);
-}
 
 /// The names of nodes.
 fn put_nodes(pen: &mut Pen<'_>, nodes: &[u8])
