@@ -6,7 +6,7 @@ pub returns : goal.returns
 returns c =
     let a = c.args in
     let put = c.copy_from_slice in
-    rw c.from-base.ensures record {
-      here = row_put a.flat.now a.list.now put.new.self a.v _ c.requires.short put.ensures.after (omega arith) (omega arith);
-      others = row_kept a.flat.now a.list.now put.new.self a.v _ c.requires.short put.ensures.after (omega arith) (omega arith);
+    record {
+      here = row_put a.flat.now a.list.now put.new.self a.v _ _ c.requires.short put.ensures.after (omega arith) (omega arith) (omega arith);
+      others = row_kept a.flat.now a.list.now put.new.self a.v _ _ c.requires.short put.ensures.after (omega arith) (omega arith) (omega arith);
     }
