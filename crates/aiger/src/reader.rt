@@ -14,6 +14,7 @@ use crate::line::Line;
 use crate::part::{Kind, Part};
 use drawing::refusal::{Fault, Rule};
 use drawing::table::Table;
+use drawing::table::calls::MOST_NODES;
 
 /// The word that a text begins with.
 const WORD: [u8; 4] = *b"aag ";
@@ -42,7 +43,7 @@ pub struct Reader {
     inputs: usize,
     outputs: usize,
     gates: usize,
-    /// Node 0 alone, until the header is read.
+    /// All nodes, of which no line names any, until the header says how many there are.
     draft: Draft,
 }
 
@@ -58,7 +59,7 @@ impl Reader {
             inputs: 0,
             outputs: 0,
             gates: 0,
-            draft: Draft::new(0),
+            draft: Draft::new(MOST_NODES - 1),
         }
     }
 
