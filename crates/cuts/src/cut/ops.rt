@@ -16,7 +16,7 @@ fn subset(leaves: &[u8], others: &[u8]) -> bool
 {
     let mut a = leaves;
     let mut b = others;
-    // more leaves than others are not all among them: most pairs end at this test, or at the first leaf below the others
+    // both rise: a leaf below the first of the others is none of them, and more leaves than others are not all among them
     while a.len() <= b.len() {
         let ([x, left @ ..], [y, right @ ..]) = (a, b) else {
             return true;

@@ -101,7 +101,7 @@ impl Job {
         ensures { MakingAll self.old result self.new }
     {
         let marks = reached(&self.table);
-        // a map that lacks no list needs no rows, and to blank them takes a tenth of a small one
+        // new rows are blanked whole, so a map that has every list at hand goes without
         if self.keeps_needed(&marks) {
             return Ok(0);
         }
