@@ -1,5 +1,4 @@
-//! A pen that writes bytes into a buffer. What falls past the buffer's end is dropped, so that a pen on an empty
-//! buffer only counts.
+//! A pen that writes bytes into a buffer. What falls past the buffer's end is dropped, and counted all the same.
 #![tactic(auto)]
 
 ghost use Rattle.std.specs.Prelude.{◌≡◌, ◌<◌, [], ◌∷◌, decimal};
@@ -39,6 +38,20 @@ impl Pen<'_> {
     pub fn text(&mut self, text: &[u8])
         ensures { Wrote self.old text.now self.new }
     {
+        let end = self.at.saturating_add(text.len());
+        if end <= self.out.len() {
+            self.out[self.at..end].copy_from_slice(text);
+            self.at = end;
+        } else {
+            self.bytes(text);
+        }
+    }
+
+    /// Writes a text byte by byte, as far as the buffer reaches.
+    #[cold]
+    fn bytes(&mut self, text: &[u8])
+        ensures { Wrote self.old text.now self.new }
+    {
         for byte in text {
             self.byte(*byte);
         }
@@ -52,7 +65,28 @@ impl Pen<'_> {
         if n < 10 {
             return self.byte(b'0' + n as u8);
         }
-        self.number(n / 10);
+        if n < 100 {
+            return self.text(&[b'0' + (n / 10) as u8, b'0' + (n % 10) as u8]);
+        }
+        if n < 1000 {
+            return self.text(&[
+                b'0' + (n / 100) as u8,
+                b'0' + (n / 10 % 10) as u8,
+                b'0' + (n % 10) as u8,
+            ]);
+        }
+        self.digits(n);
+    }
+
+    /// Writes a number in decimal, digit by digit.
+    #[tactic(auto, using(std::proofs::lemmas::Fmt::decimal_digit))]
+    fn digits(&mut self, n: usize)
+        ensures { Wrote self.old (decimal n) self.new }
+    {
+        if n < 10 {
+            return self.byte(b'0' + n as u8);
+        }
+        self.digits(n / 10);
         self.byte(b'0' + (n % 10) as u8);
     }
 }

@@ -1,11 +1,12 @@
-use Rattle.std.proofs.Common.{sym, arith}
-use Rattle.std.proofs.lemmas.List.{take_more, take_all}
-use Rattle.pen.proofs.Wrote.{wrote_then, wrote_is}
+use Rattle.std.proofs.Common.{◌≡◌, ◌+◌, ◌-◌, ◌++◌, length, take, drop, refl, sym, ◌∙◌, arith}
+use Rattle.pen.proofs.Wrote.{over_there}
 use Rattle.pen.proofs.Pen.text.Goals as goal
 
-pub loop-byte-preserved : goal.loop-byte-preserved
-loop-byte-preserved c =
-    wrote_is (wrote_then c.loop-byte.invariant c.byte.ensures) (sym (take_more c.args.text.now c.loop-byte.byte-index 0 (omega arith)))
-
-pub returns : goal.returns
-returns c = wrote_is c.loop-byte.invariant (take_all c.loop-byte.byte-index c.args.text.now (omega arith))
+pub returns-then-end-self : goal.returns-then-end-self
+returns-then-end-self c =
+    let p = c.args.self.now.at in
+    let out = c.args.self.now.out.now in
+    let text = c.args.text.now in
+    let end : c.saturating_add-end.result ≡ p + length text = omega arith in
+    let many : c.saturating_add-end.result - p ≡ length text = omega arith in
+    record { same = refl; laid = (λ i. (take p out ++ (c.copy_from_slice.ensures.after i ++ drop (many i) (drop p out)), end i)) ∙ sym (over_there out text p (omega arith) (omega arith)) }
