@@ -8,3 +8,4 @@ pub mod Examples
 pub mod Steps
 pub mod Bytes
 pub mod Writes
+pub mod Sizes

@@ -4,7 +4,7 @@ use Rattle.drawing.specs.declared.node.Node.TheVariants.{Constant, Input, Gate}
 use Rattle.drawing.specs.declared.refusal.Rule.TheVariants.{Pattern, Figures, Literal}
 use Rattle.drawing.specs.declared.refusal.Fault.{Fault}
 use Rattle.drawing.specs.Drawing.{Drawing, drawing, lawful}
-use Rattle.aiger.specs.Text.{text}
+use Rattle.aiger.specs.Text.{text, most_bytes}
 use Rattle.aiger.specs.Reads.{read, fault}
 
 -- an accepted text is the text of its drawing, which is lawful
@@ -14,6 +14,10 @@ OnlyTexts = (t : List ℕ) (d : Drawing) → read t ≡ Ok d → (t ≡ text d) 
 -- the text of a lawful drawing is accepted, and gives that drawing
 abbrev pub ReadsBack : Type 0
 ReadsBack = (d : Drawing) → lawful d ≡ true → read (text d) ≡ Ok d
+
+-- the text of a lawful drawing has at most 4,376 bytes
+abbrev pub ShortTexts : Type 0
+ShortTexts = (d : Drawing) → lawful d ≡ true → length (text d) ≤ most_bytes
 
 -- how many lines end in these bytes: the number of bytes 10
 abbrev pub ends : List ℕ → ℕ

@@ -49,3 +49,7 @@ word = 97 ∷ 97 ∷ 103 ∷ 32 ∷ []
 -- the text of a drawing: the first word, and a line for each row
 abbrev pub text : Drawing → List ℕ
 text d = word ++ (line_of (heading d) ++ flat_map line_of (body d))
+
+-- the most bytes of a text: enough for the header and a line for each of 256 inputs, 64 outputs and 256 gates
+abbrev pub most_bytes : ℕ
+most_bytes = 4376

@@ -19,15 +19,16 @@ mod part;
 mod reader;
 mod writer;
 
-ghost use Rattle.aiger.specs.Laws.{BreaksForGood, EndsEarly, Examples, OnlyTexts, PlacesFaults, ReadsBack};
+ghost use Rattle.aiger.specs.Laws.{BreaksForGood, EndsEarly, Examples, OnlyTexts, PlacesFaults, ReadsBack, ShortTexts};
 
 pub use reader::read;
-pub use writer::write;
+pub use writer::{MOST_TEXT, write};
 
 /// What is proved of the format.
 pub fn format_stands()
     ensures only { OnlyTexts }
     ensures back { ReadsBack }
+    ensures short { ShortTexts }
     ensures places { PlacesFaults }
     ensures breaks { BreaksForGood }
     ensures early { EndsEarly }

@@ -14,6 +14,9 @@ use drawing::refusal::Refusal;
 use drawing::table::Table;
 use pen::Pen;
 
+/// No text of a drawing has more bytes.
+pub const MOST_TEXT: usize = 4376;
+
 /// A kind of nodes that have a line each.
 trait Row {
     ghost lines: { ℕ → NodeOf → List (List ℕ) };
@@ -117,14 +120,13 @@ fn put_drawing(pen: &mut Pen<'_>, table: &Table)
 pub fn write(table: &Table, buffer: &mut [u8]) -> Result<usize, Refusal>
     ensures { Copied (text (drawing_of table.now)) buffer.old result buffer.new }
 {
-    let mut nowhere: [u8; 0] = [];
-    let mut count = Pen::new(&mut nowhere);
-    put_drawing(&mut count, table);
-    let length = count.at;
+    let mut page = [0; MOST_TEXT];
+    let mut pen = Pen::new(&mut page);
+    put_drawing(&mut pen, table);
+    let length = pen.at;
     if buffer.len() < length {
         return Err(Refusal::TooShort);
     }
-    let mut pen = Pen::new(buffer);
-    put_drawing(&mut pen, table);
+    buffer[..length].copy_from_slice(&page[..length]);
     Ok(length)
 }
