@@ -130,6 +130,9 @@ fn put_section(pen: &mut Pen<'_>, cover: &Cover, section: usize)
     pen.text(b".end\n");
 }
 
+/// The bytes of a page. A section that fits one is written once, and a longer one twice.
+const PAGE: usize = 512;
+
 /// Writes a section of the cell list, counted from 0, and answers its length; what stands behind it
 /// in the buffer stays.
 ///
@@ -142,14 +145,17 @@ pub fn write_section(cover: &Cover, section: usize, out: &mut [u8]) -> Result<us
     if section >= sections(cover) {
         return Err(Refusal::NoSection);
     }
-    let mut nowhere: [u8; 0] = [];
-    let mut count = Pen::new(&mut nowhere);
-    put_section(&mut count, cover, section);
-    let length = count.at;
+    let mut page = [0; PAGE];
+    let mut pen = Pen::new(&mut page);
+    put_section(&mut pen, cover, section);
+    let length = pen.at;
     if out.len() < length {
         return Err(Refusal::TooShort);
     }
-    let mut pen = Pen::new(out);
-    put_section(&mut pen, cover, section);
+    if length <= PAGE {
+        out[..length].copy_from_slice(&page[..length]);
+    } else {
+        put_section(&mut Pen::new(out), cover, section);
+    }
     Ok(length)
 }
