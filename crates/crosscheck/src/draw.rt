@@ -1,35 +1,11 @@
 //! Drawings of all sizes.
 
 use crate::random::Random;
+use arrayvec::ArrayVec;
 use drawing::node::Pair;
 use drawing::refusal::Refusal;
+use drawing::table::calls::MOST_NODES;
 use fitter::job::Job;
-use std::alloc::{AllocError, AllocFailed, Global};
-
-/// Why there is no drawing.
-#[derive(Debug, Drop)]
-pub enum NoDrawing {
-    Refused(Refusal),
-    OutOfMemory(AllocError),
-}
-
-impl From<Refusal> for NoDrawing {
-    fn from(refusal: Refusal) -> NoDrawing {
-        NoDrawing::Refused(refusal)
-    }
-}
-
-impl From<AllocError> for NoDrawing {
-    fn from(failure: AllocError) -> NoDrawing {
-        NoDrawing::OutOfMemory(failure)
-    }
-}
-
-impl<T: Drop> From<AllocFailed<T>> for NoDrawing {
-    fn from(failure: AllocFailed<T>) -> NoDrawing {
-        NoDrawing::OutOfMemory(AllocError::from(failure))
-    }
-}
 
 /// A node as a literal, inverted now and then.
 fn turned(random: &mut Random, node: u16) -> u16 {
@@ -83,10 +59,15 @@ fn woven(random: &mut Random) -> Result<Job, Refusal> {
 /// Nodes that no gate has taken, or that stay although one has.
 #[derive(Drop)]
 struct Pool {
-    nodes: Vec<u16>,
+    nodes: ArrayVec<u16, MOST_NODES>,
 }
 
 impl Pool {
+    /// Puts a node behind the others. There is room for all nodes of a drawing.
+    fn put(&mut self, node: u16) {
+        let _ = self.nodes.try_push(node);
+    }
+
     /// A literal of one of the nodes, if there is one; the node stays where `keep` says so.
     fn take(&mut self, random: &mut Random, keep: u16) -> Option<u16> {
         let count = u16::try_from(self.nodes.len()).ok()?;
@@ -110,13 +91,13 @@ impl Pool {
 }
 
 /// A drawing whose gates take mostly nodes that no other gate has: trees that share some nodes.
-fn grown(alloc: Global, random: &mut Random) -> Result<Job, NoDrawing> {
+fn grown(random: &mut Random) -> Result<Job, Refusal> {
     let mut job = Job::new();
     let total = 1 + random.below(255);
     let first = 1 + random.below(90);
     let keep = 3 + random.below(30);
     let mut pool = Pool {
-        nodes: Vec::new(alloc),
+        nodes: ArrayVec::new(),
     };
     for v in 1..=total {
         let fanins = if v <= first {
@@ -128,18 +109,18 @@ fn grown(alloc: Global, random: &mut Random) -> Result<Job, NoDrawing> {
             Some(pair) => job.gate(pair)?,
             None => job.input()?,
         };
-        pool.nodes.push(v)?;
+        pool.put(v);
     }
     add_outputs(&mut job, random, total)?;
     Ok(job)
 }
 
 /// A job with a drawing of up to 255 nodes above node 0.
-pub fn draw(alloc: Global, random: &mut Random) -> Result<Job, NoDrawing> {
+pub fn draw(random: &mut Random) -> Result<Job, Refusal> {
     // two kinds of drawings by chance: they need different things, so that nothing would be joined by passing one of them in
     if random.below(2) == 0 {
-        Ok(woven(random)?)
+        woven(random)
     } else {
-        grown(alloc, random)
+        grown(random)
     }
 }

@@ -6,12 +6,12 @@
 //! carries at most one unit.
 
 use crate::plain::Plain;
-use std::alloc::{AllocError, Global};
-use std::collections::VecDeque;
+use arrayvec::ArrayVec;
 
 /// A node seen from above or from below, or the top where all paths begin.
-#[derive(Clone, Copy, PartialEq, Eq)]
+#[derive(Clone, Copy, Default, PartialEq, Eq)]
 enum Spot {
+    #[default]
     Top,
     In(u8),
     Out(u8),
@@ -24,27 +24,29 @@ struct Reached {
     out_of: Option<Spot>,
 }
 
-/// A search for one more path: how each node was reached, and the spots that it goes on from.
+/// A search for one more path: how each node was reached, and the spots in the order in which they were.
 #[derive(Drop)]
 struct Search {
     reached: [Reached; 256],
-    queue: VecDeque<Spot>,
+    queue: ArrayVec<Spot, 512>,
 }
 
 impl Search {
     /// All paths begin at these nodes.
-    fn new(alloc: Global, entries: &[u8]) -> Result<Search, AllocError> {
+    fn new(entries: &[bool; 256]) -> Search {
         let mut search = Search {
             reached: [Reached {
                 into: None,
                 out_of: None,
             }; 256],
-            queue: VecDeque::with_capacity(alloc, 512)?,
+            queue: ArrayVec::new(),
         };
-        for v in entries {
-            search.reach(Spot::In(*v), Spot::Top)?;
+        for (v, entry) in (0..=255u8).zip(entries) {
+            if *entry {
+                search.reach(Spot::In(v), Spot::Top);
+            }
         }
-        Ok(search)
+        search
     }
 
     /// From which spot this one was reached first. Nothing leads to the top.
@@ -57,17 +59,17 @@ impl Search {
     }
 
     /// Notes that a spot is reached, unless it is the top or was reached before.
-    fn reach(&mut self, spot: Spot, from: Spot) -> Result<(), AllocError> {
+    fn reach(&mut self, spot: Spot, from: Spot) {
         if spot == Spot::Top || self.origin(spot).is_some() {
-            return Ok(());
+            return;
         }
         match spot {
             Spot::Top => {}
             Spot::In(v) => self.reached[v as usize].into = Some(from),
             Spot::Out(v) => self.reached[v as usize].out_of = Some(from),
         }
-        self.queue.push_back(spot)?;
-        Ok(())
+        // there is room: each of the 512 spots besides the top is queued at most once
+        let _ = self.queue.try_push(spot);
     }
 }
 
@@ -85,26 +87,26 @@ impl Flow {
     }
 
     /// Goes on from a spot. The answer is whether it is a free input, where a path ends.
-    fn step(&self, drawing: &Plain, search: &mut Search, spot: Spot) -> Result<bool, AllocError> {
+    fn step(&self, drawing: &Plain, search: &mut Search, spot: Spot) -> bool {
         match spot {
             Spot::Top => {}
             Spot::In(v) => match self.before[v as usize] {
-                Some(before) => search.reach(before, spot)?,
-                None if drawing.is_input(v) => return Ok(true),
-                None => search.reach(Spot::Out(v), spot)?,
+                Some(before) => search.reach(before, spot),
+                None if drawing.is_input(v) => return true,
+                None => search.reach(Spot::Out(v), spot),
             },
             Spot::Out(v) => {
                 if let Some(fanins) = drawing.fanins(v) {
                     for fanin in fanins {
-                        search.reach(Spot::In(fanin), spot)?;
+                        search.reach(Spot::In(fanin), spot);
                     }
                 }
                 if self.before[v as usize].is_some() {
-                    search.reach(Spot::In(v), spot)?;
+                    search.reach(Spot::In(v), spot);
                 }
             }
         }
-        Ok(false)
+        false
     }
 
     /// Turns the way that led to a spot into flow, from there back to the top.
@@ -123,25 +125,23 @@ impl Flow {
     }
 
     /// Adds a path, if there is one more.
-    fn augment(&mut self, drawing: &Plain, mut search: Search) -> Result<bool, AllocError> {
-        // each of the 512 spots besides the top is queued at most once
-        for _ in 0..512u16 {
-            let Some(spot) = search.queue.pop_front() else {
-                return Ok(false);
+    fn augment(&mut self, drawing: &Plain, mut search: Search) -> bool {
+        for head in 0..512usize {
+            let Some(spot) = search.queue.get(head).copied() else {
+                return false;
             };
-            if self.step(drawing, &mut search, spot)? {
+            if self.step(drawing, &mut search, spot) {
                 self.turn(&search, spot);
-                return Ok(true);
+                return true;
             }
         }
-        Ok(false)
+        false
     }
 }
 
 /// The levels of a drawing's needed gates, as far as they are worked out; 0 for all other nodes.
 #[derive(Drop)]
 struct Survey<'a> {
-    alloc: Global,
     drawing: Plain<'a>,
     width: u8,
     levels: [u16; 256],
@@ -149,9 +149,9 @@ struct Survey<'a> {
 
 impl Survey<'_> {
     /// The nodes below level p right under gate v and the nodes of level p below it. The constant is a dead end.
-    fn entries(&self, v: u8, p: u16) -> Result<Vec<u8>, AllocError> {
+    fn entries(&self, v: u8, p: u16) -> [bool; 256] {
         let mut inside = [false; 256];
-        let mut entries = Vec::new(self.alloc);
+        let mut entries = [false; 256];
         inside[v as usize] = true;
         // by number, since lower nodes come inside on the way down
         for u in (0..=v).rev() {
@@ -162,51 +162,44 @@ impl Survey<'_> {
                     if self.levels[fanin as usize] == p {
                         inside[fanin as usize] = true;
                     } else {
-                        entries.push(fanin)?;
+                        entries[fanin as usize] = true;
                     }
                 }
             }
         }
-        Ok(entries)
+        entries
     }
 
     /// Whether gate v has a cut of at most `width` leaves with all leaves below level p.
-    fn has_cut(&self, v: u8, p: u16) -> Result<bool, AllocError> {
-        let entries = self.entries(v, p)?;
+    fn has_cut(&self, v: u8, p: u16) -> bool {
+        let entries = self.entries(v, p);
         let mut flow = Flow::new();
         for _ in 0..=self.width {
-            let search = Search::new(self.alloc, entries.as_slice())?;
-            if !flow.augment(&self.drawing, search)? {
-                return Ok(true);
+            if !flow.augment(&self.drawing, Search::new(&entries)) {
+                return true;
             }
         }
-        Ok(false)
+        false
     }
 
     /// The level of gate v, all below it being worked out.
-    fn level(&self, v: u8) -> Result<u16, AllocError> {
+    fn level(&self, v: u8) -> u16 {
         let Some(fanins) = self.drawing.fanins(v) else {
-            return Ok(0);
+            return 0;
         };
         let [left, right] = fanins;
         let p = self.levels[left as usize].max(self.levels[right as usize]);
-        if p > 0 && self.has_cut(v, p)? {
-            Ok(p)
+        if p > 0 && self.has_cut(v, p) {
+            p
         } else {
-            Ok(p.saturating_add(1))
+            p.saturating_add(1)
         }
     }
 }
 
 /// The levels of the needed gates; 0 for all other nodes.
-pub fn levels_of(
-    alloc: Global,
-    drawing: Plain,
-    needed: &[bool; 256],
-    width: u8,
-) -> Result<[u16; 256], AllocError> {
+pub fn levels_of(drawing: Plain, needed: &[bool; 256], width: u8) -> [u16; 256] {
     let mut survey = Survey {
-        alloc,
         drawing,
         width,
         levels: [0; 256],
@@ -214,8 +207,8 @@ pub fn levels_of(
     // by number, since a level is worked out from those below it
     for (v, needed) in (0..=255u8).zip(needed) {
         if *needed {
-            survey.levels[v as usize] = survey.level(v)?;
+            survey.levels[v as usize] = survey.level(v);
         }
     }
-    Ok(survey.levels)
+    survey.levels
 }

@@ -7,7 +7,7 @@ mod plain;
 mod random;
 mod tally;
 
-use draw::{NoDrawing, draw};
+use draw::draw;
 use random::Random;
 use std::io;
 use tally::Tally;
@@ -18,14 +18,13 @@ fn main(rt: HostRuntime) -> io::Result<()> {
     let mut random = Random::new(1);
     let mut all = [2, 3, 4, 5].map(Tally::new);
     for _ in 0..DRAWINGS {
-        match draw(rt.alloc(), &mut random) {
+        match draw(&mut random) {
             Ok(mut job) => {
                 for tally in &mut all {
-                    tally.compare(rt.alloc(), &mut job, &mut random)?;
+                    tally.compare(&mut job, &mut random);
                 }
             }
-            Err(NoDrawing::Refused(_)) => println!(rt; "a drawing was refused")?,
-            Err(NoDrawing::OutOfMemory(failure)) => return Err(io::Error::from(failure)),
+            Err(_) => println!(rt; "a drawing was refused")?,
         }
     }
     println!(rt; "{DRAWINGS} drawings")?;

@@ -6,10 +6,10 @@ use crate::random::Random;
 use cells::cover::Cover;
 use cells::cover::evaluate::evaluate;
 use drawing::refusal::Refusal;
+use drawing::table::calls::MOST_NODES;
 use family::Family;
 use family::levels::Levels;
 use fitter::job::Job;
-use std::alloc::{AllocError, Global};
 use std::fmt;
 use std::ops::AddAssign;
 
@@ -52,12 +52,7 @@ impl Tally {
     }
 
     /// Maps the drawing at this width, and compares.
-    pub fn compare(
-        &mut self,
-        alloc: Global,
-        job: &mut Job,
-        random: &mut Random,
-    ) -> Result<(), AllocError> {
+    pub fn compare(&mut self, job: &mut Job, random: &mut Random) {
         let mut cover = Cover::new();
         let mut arrivals = [0u16; 256];
         match self.map(job, &mut cover, &mut arrivals) {
@@ -65,13 +60,12 @@ impl Tally {
                 self.cells += cells as u64;
                 self.lists += lists as u64;
                 let drawing = Plain::from(job.table());
-                self.compare_levels(alloc, &drawing, &arrivals)?;
-                self.compare_rows(alloc, &drawing, &cover, random)?;
+                self.compare_levels(&drawing, &arrivals);
+                self.compare_rows(&drawing, &cover, random);
             }
             Err(Refusal::Crowded(_)) => self.crowded += 1,
             Err(_) => self.differences += 1,
         }
-        Ok(())
     }
 
     fn map(
@@ -85,14 +79,9 @@ impl Tally {
     }
 
     /// Compares the arrivals of all nodes with the levels that flows give.
-    fn compare_levels(
-        &mut self,
-        alloc: Global,
-        drawing: &Plain,
-        arrivals: &[u16; 256],
-    ) -> Result<(), AllocError> {
+    fn compare_levels(&mut self, drawing: &Plain, arrivals: &[u16; 256]) {
         let needed = drawing.needed();
-        let levels = levels_of(alloc, *drawing, &needed, self.width)?;
+        let levels = levels_of(*drawing, &needed, self.width);
         for ((level, arrival), needed) in levels.iter().zip(arrivals).zip(&needed) {
             if level != arrival {
                 self.differences += 1;
@@ -102,28 +91,20 @@ impl Tally {
                 self.levels += u64::from(*level);
             }
         }
-        Ok(())
     }
 
     /// Compares the outputs under all rows, or under 64 rows where there are more than 6 inputs.
-    fn compare_rows(
-        &mut self,
-        alloc: Global,
-        drawing: &Plain,
-        cover: &Cover,
-        random: &mut Random,
-    ) -> Result<(), AllocError> {
-        let inputs = drawing.inputs();
+    fn compare_rows(&mut self, drawing: &Plain, cover: &Cover, random: &mut Random) {
+        let inputs = drawing.inputs().min(MOST_NODES);
         let rows = if inputs < 6 { 1u16 << inputs } else { 64 };
         for m in 0..rows {
-            let mut row = Vec::with_capacity(alloc, inputs)?;
-            for i in 0..inputs {
+            let mut row = [0; MOST_NODES];
+            for (i, place) in row.iter_mut().enumerate().take(inputs) {
                 let bit = if i < 6 { m >> i & 1 } else { random.below(2) };
-                row.push((bit & 1) as u8)?;
+                *place = (bit & 1) as u8;
             }
-            self.compare_row(drawing, cover, row.as_slice());
+            self.compare_row(drawing, cover, &row[..inputs]);
         }
-        Ok(())
     }
 
     /// Compares the outputs under a row.

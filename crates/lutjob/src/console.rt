@@ -7,7 +7,7 @@ use drawing::refusal::Refusal;
 use std::alloc::Global;
 use std::fmt::Display;
 use std::io;
-use std::io::{BufRead, Read, Write};
+use std::io::{BufRead, ErrorKind, Read, Write};
 
 /// A script, where its answers go, and the heap.
 #[derive(Drop)]
@@ -26,9 +26,9 @@ impl<R: BufRead + Drop, W: Write + Drop> Console<R, W> {
         self.heap
     }
 
-    /// Reads the next line, without its end; the last one may lack an end.
-    pub fn next_line(&mut self) -> io::Result<Option<Vec<u8>>> {
-        let mut line = Vec::new(self.heap);
+    /// Reads the next line into this vector, in place of what it holds, without its end; the last line may lack an end.
+    pub fn next_line(&mut self, mut line: Vec<u8>) -> io::Result<Option<Vec<u8>>> {
+        line.clear();
         if self.script.read_until(b'\n', &mut line)? == 0 {
             return Ok(None);
         }
@@ -41,14 +41,15 @@ impl<R: BufRead + Drop, W: Write + Drop> Console<R, W> {
     /// Reads a text of `size` bytes, and the line's end behind it, which may lack at the end of the script.
     /// `None` where the text is not whole, or anything stands between it and the line's end.
     pub fn next_text(&mut self, size: usize) -> io::Result<Option<Vec<u8>>> {
-        let mut text = Vec::new(self.heap);
-        let got = self
-            .script
-            .by_ref()
-            .take(size as u64)
-            .read_to_end(&mut text)?;
-        let is_alone = self.next_line()?.is_none_or(|rest| rest.is_empty());
-        Ok(if got == size && is_alone {
+        let mut text = vec![in self.heap; 0; size]?;
+        let is_whole = match self.script.read_exact(text.as_mut_slice()) {
+            Ok(()) => true,
+            Err(error) if error.kind() == ErrorKind::UnexpectedEof => false,
+            Err(error) => return Err(error),
+        };
+        let rest = self.next_line(Vec::new(self.heap))?;
+        let is_alone = rest.is_none_or(|rest| rest.is_empty());
+        Ok(if is_whole && is_alone {
             Some(text)
         } else {
             None
@@ -66,6 +67,14 @@ impl<R: BufRead + Drop, W: Write + Drop> Console<R, W> {
     /// Writes a line.
     pub fn write_line<D: Display + Drop>(&mut self, text: D) -> io::Result<()> {
         self.out.writeln(text)
+    }
+
+    /// Writes a line of digits.
+    pub fn write_digits(&mut self, digits: &[u8]) -> io::Result<()> {
+        for digit in digits {
+            write!(self.out, "{digit}")?;
+        }
+        self.out.write_all(b"\n")
     }
 
     /// Writes the beginning of a buffer that a text was put into, or why it was refused.

@@ -7,65 +7,70 @@ use crate::mapped::{Arrivals, Mapped};
 use aiger::write;
 use cells::cover::Cover;
 use drawing::refusal::Refusal;
+use drawing::table::calls::MOST_NODES;
 use family::Family;
 use family::levels::Levels;
 use family::pins::Pins;
 use fitter::job::Job;
 use script::command::{Command, Kind};
 use script::parse::parse;
-use std::alloc::{AllocError, Global};
 use std::io;
 use std::io::{BufRead, Write};
 
 /// No text of a drawing is longer.
 const MOST_TEXT: usize = 4376;
 
-/// A job, and what its last accepted map gave.
+/// A job, with the cover and the arrivals of its last accepted map.
 #[derive(Drop)]
 pub struct Desk {
     job: Job,
-    last: Option<Mapped>,
+    cover: Cover,
+    levels: [u16; MOST_NODES],
+    pins: [(u16, u16); MOST_NODES],
+    last: Option<Last>,
+}
+
+/// Which table the last accepted map filled, and for how many nodes.
+#[derive(Clone, Copy)]
+struct Last {
+    kind: Kind,
+    nodes: usize,
 }
 
 impl Desk {
     pub fn new() -> Desk {
         Desk {
             job: Job::new(),
+            cover: Cover::new(),
+            levels: [0; MOST_NODES],
+            pins: [(0, 0); MOST_NODES],
             last: None,
         }
     }
 
-    /// Maps by a family that may be refused, and keeps what an accepted map gives. A refusal leaves what the last
-    /// accepted map gave.
-    fn map_by<F: Family + Drop, K: FnOnce(Vec<F::Arrival>) -> Arrivals>(
-        &mut self,
-        family: Result<F, Refusal>,
-        keep: K,
-        heap: Global,
-    ) -> Result<Answer, AllocError>
-        requires { K.IsAlwaysCallable keep }
-    {
-        let family = match family {
-            Ok(family) => family,
-            Err(refusal) => return Ok(Answer::Refused(refusal)),
-        };
+    /// Maps by the family of this name. A refusal leaves what the last accepted map gave.
+    fn map(&mut self, kind: Kind, width: u8) -> Result<(usize, usize), Refusal> {
         let nodes = self.job.table().nodes().len();
-        let mut cover = Cover::new();
-        let mut arrivals = vec![in heap; family.start(); nodes]?;
-        let answer = self.job.map(&family, &mut cover, arrivals.as_mut_slice());
-        if answer.is_ok() {
-            let arrivals = keep(arrivals);
-            self.last = Some(Mapped { cover, arrivals });
-        }
-        Ok(answer.into())
+        let cover = &mut self.cover;
+        let answer = match kind {
+            Kind::Levels => self.job.map(&Levels::new(width)?, cover, &mut self.levels)?,
+            Kind::Pins => self.job.map(&Pins::new(width)?, cover, &mut self.pins)?,
+        };
+        self.last = Some(Last { kind, nodes });
+        Ok(answer)
     }
 
-    /// Maps by the family of this name.
-    fn map(&mut self, kind: Kind, width: u8, heap: Global) -> Result<Answer, AllocError> {
-        match kind {
-            Kind::Levels => self.map_by(Levels::new(width), Arrivals::Levels, heap),
-            Kind::Pins => self.map_by(Pins::new(width), Arrivals::Pins, heap),
-        }
+    /// What the last accepted map gave.
+    fn mapped(&self) -> Option<Mapped<'_>> {
+        let Last { kind, nodes } = self.last?;
+        let arrivals = match kind {
+            Kind::Levels => Arrivals::Levels(self.levels.get(..nodes)?),
+            Kind::Pins => Arrivals::Pins(self.pins.get(..nodes)?),
+        };
+        Some(Mapped {
+            cover: &self.cover,
+            arrivals,
+        })
     }
 
     /// Loads a text, and answers how many nodes and outputs it has.
@@ -93,8 +98,8 @@ impl Desk {
         T: FnOnce(&Mapped, &mut Console<R, W>) -> io::Result<()>,
         requires { T.IsAlwaysCallable tell }
     {
-        match &self.last {
-            Some(mapped) => tell(mapped, console),
+        match self.mapped() {
+            Some(mapped) => tell(&mapped, console),
             None => console.write_line(Answer::Nothing),
         }
     }
@@ -115,10 +120,7 @@ impl Desk {
                 Some(text) => console.answer(self.load(text.as_slice())),
                 None => console.write_line(Answer::Unknown),
             },
-            Command::Map(kind, width) => {
-                let answer = self.map(kind, width, console.heap())?;
-                console.write_line(answer)
-            }
+            Command::Map(kind, width) => console.answer(self.map(kind, width)),
             Command::Arrivals => self.tell(console, |map, console| map.write_arrivals(console)),
             Command::Cover => self.tell(console, |map, console| map.write_cover(console)),
             Command::Evaluate(digits) => {

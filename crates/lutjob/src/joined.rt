@@ -11,6 +11,7 @@ pub struct Joined<'a, T> {
 }
 
 impl<T: Display> Display for Joined<'_, T> {
+    #[inline(always)]
     fn fmt<W: fmt::Write>(&self, f: &mut fmt::Formatter<W>) -> fmt::Result {
         for (i, item) in self.items.iter().enumerate() {
             if i > 0 {

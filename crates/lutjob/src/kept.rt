@@ -2,7 +2,9 @@
 
 use crate::console::Console;
 use crate::joined::{Joined, spaced};
+use arrayvec::ArrayVec;
 use cuts::cut::Cut;
+use drawing::table::calls::MOST_NODES;
 use fitter::job::Job;
 use std::fmt::Display;
 use std::io::{BufRead, Write};
@@ -13,9 +15,12 @@ pub fn write_kept<R: BufRead + Drop, W: Write + Drop>(
     job: &Job,
     console: &mut Console<R, W>,
 ) -> io::Result<()> {
-    let kept: Vec<u8> = (0..=255u8)
-        .filter(|gate| job.is_kept(*gate))
-        .collect(console.heap())?;
+    let mut kept: ArrayVec<u8, MOST_NODES> = ArrayVec::new();
+    for (gate, _) in (0..=255u8).zip(job.table().nodes()) {
+        if job.is_kept(gate) {
+            let _ = kept.try_push(gate);
+        }
+    }
     console.write_line(spaced(kept.as_slice()))
 }
 

@@ -2,23 +2,28 @@
 
 use crate::answer::Answer;
 use crate::console::Console;
-use crate::joined::{Joined, spaced};
+use crate::joined::spaced;
+use arrayvec::ArrayVec;
+use blif::section::{sections, write_section};
 use cells::cover::Cover;
 use cells::cover::evaluate::evaluate;
-use flow::listing::{MOST_LIST, write_sections};
+use drawing::table::calls::{MOST_NODES, MOST_OUTPUTS};
 use std::fmt::Display;
 use std::io::{BufRead, Write};
 use std::{fmt, io};
 
+/// No section of a cell list is longer.
+const MOST_SECTION: usize = 2048;
+
 /// The arrivals of all nodes.
-#[derive(Drop)]
-pub enum Arrivals {
-    Levels(Vec<u16>),
-    Pins(Vec<(u16, u16)>),
+#[derive(Clone, Copy)]
+pub enum Arrivals<'a> {
+    Levels(&'a [u16]),
+    Pins(&'a [(u16, u16)]),
 }
 
 /// An arrival as levels and pins.
-#[derive(Clone, Copy)]
+#[derive(Clone, Copy, Default)]
 struct LevelsPins((u16, u16));
 
 impl Display for LevelsPins {
@@ -29,25 +34,23 @@ impl Display for LevelsPins {
 }
 
 /// A cover, and the arrivals of all nodes.
-#[derive(Drop)]
-pub struct Mapped {
-    pub cover: Cover,
-    pub arrivals: Arrivals,
+#[derive(Clone, Copy)]
+pub struct Mapped<'a> {
+    pub cover: &'a Cover,
+    pub arrivals: Arrivals<'a>,
 }
 
-impl Mapped {
+impl Mapped<'_> {
     /// Writes the arrivals.
     pub fn write_arrivals<R: BufRead + Drop, W: Write + Drop>(
         &self,
         console: &mut Console<R, W>,
     ) -> io::Result<()> {
-        match &self.arrivals {
-            Arrivals::Levels(levels) => console.write_line(spaced(levels.as_slice())),
+        match self.arrivals {
+            Arrivals::Levels(levels) => console.write_line(spaced(levels)),
             Arrivals::Pins(pins) => {
-                let shown: Vec<LevelsPins> = pins
-                    .iter()
-                    .map(|pin| LevelsPins(*pin))
-                    .collect(console.heap())?;
+                let mut shown: ArrayVec<LevelsPins, MOST_NODES> = ArrayVec::new();
+                shown.extend(pins.iter().map(|pin| LevelsPins(*pin)))?;
                 console.write_line(spaced(shown.as_slice()))
             }
         }
@@ -58,9 +61,12 @@ impl Mapped {
         &self,
         console: &mut Console<R, W>,
     ) -> io::Result<()> {
-        let mut text = [0; MOST_LIST];
-        let written = write_sections(&self.cover, &mut text);
-        console.write_text(written, &text)
+        let mut text = [0; MOST_SECTION];
+        for section in 0..sections(self.cover) {
+            let written = write_section(self.cover, section, &mut text);
+            console.write_text(written, &text)?;
+        }
+        Ok(())
     }
 
     /// Writes what the outputs of the cover are when the inputs have the values of these digits.
@@ -73,12 +79,9 @@ impl Mapped {
             .iter()
             .map(|digit| digit.saturating_sub(b'0'))
             .collect(console.heap())?;
-        let mut values = vec![in console.heap(); 0; self.cover.outputs().len()]?;
-        match evaluate(&self.cover, row.as_slice(), values.as_mut_slice()) {
-            Ok(()) => console.write_line(Joined {
-                items: values.as_slice(),
-                separator: "",
-            }),
+        let mut values = [0; MOST_OUTPUTS];
+        match evaluate(self.cover, row.as_slice(), &mut values) {
+            Ok(()) => console.write_digits(&values[..self.cover.outputs().len()]),
             Err(refusal) => console.write_line(Answer::Refused(refusal)),
         }
     }
