@@ -117,7 +117,7 @@ fn grown(random: &mut Random) -> Result<Job, Refusal> {
 
 /// A job with a drawing of up to 255 nodes above node 0.
 pub fn draw(random: &mut Random) -> Result<Job, Refusal> {
-    // two kinds of drawings by chance: they need different things, so that nothing would be joined by passing one of them in
+    // two kinds of drawings by chance, which are made here alone: nothing would be joined by passing one of them in
     if random.below(2) == 0 {
         woven(random)
     } else {

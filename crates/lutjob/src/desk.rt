@@ -4,7 +4,7 @@ use crate::answer::Answer;
 use crate::console::Console;
 use crate::kept::{write_kept, write_list};
 use crate::mapped::{Arrivals, Mapped};
-use aiger::write;
+use aiger::{MOST_TEXT, write};
 use cells::cover::Cover;
 use drawing::refusal::Refusal;
 use drawing::table::calls::MOST_NODES;
@@ -16,9 +16,6 @@ use script::command::{Command, Kind};
 use script::parse::parse;
 use std::io;
 use std::io::{BufRead, Write};
-
-/// No text of a drawing is longer.
-const MOST_TEXT: usize = 4376;
 
 /// A job, with the cover and the arrivals of its last accepted map.
 #[derive(Drop)]

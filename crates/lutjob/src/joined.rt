@@ -11,6 +11,7 @@ pub struct Joined<'a, T> {
 }
 
 impl<T: Display> Display for Joined<'_, T> {
+    // so that each use is compiled with its own separator
     #[inline(always)]
     fn fmt<W: fmt::Write>(&self, f: &mut fmt::Formatter<W>) -> fmt::Result {
         for (i, item) in self.items.iter().enumerate() {

@@ -18,6 +18,7 @@ pub fn write_kept<R: BufRead + Drop, W: Write + Drop>(
     let mut kept: ArrayVec<u8, MOST_NODES> = ArrayVec::new();
     for (gate, _) in (0..=255u8).zip(job.table().nodes()) {
         if job.is_kept(gate) {
+            // there is room for all nodes
             let _ = kept.try_push(gate);
         }
     }

@@ -19,15 +19,15 @@ fn run(rt: &HostRuntime) -> io::Result<()> {
     let out = BufWriter::new(rt.alloc(), rt.stdout())?;
     let mut console = Console::new(script, out, rt.alloc());
     let mut desk = Desk::new();
-    let mut kept = Vec::new(rt.alloc());
+    let mut line = Vec::new(rt.alloc());
     // input has no known end, and a loop needs one: no script has as many lines
     for _ in 0..u64::MAX {
-        let Some(line) = console.next_line(kept)? else {
+        let Some(next) = console.next_line(line)? else {
             break;
         };
-        desk.handle(line.as_slice(), &mut console)?;
+        desk.handle(next.as_slice(), &mut console)?;
         console.flush()?;
-        kept = line;
+        line = next;
     }
     Ok(())
 }
